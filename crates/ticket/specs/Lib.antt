@@ -1,0 +1,5 @@
+pub mod Kinds
+pub mod Order
+pub mod Issue
+pub mod Laws
+pub mod Determined
