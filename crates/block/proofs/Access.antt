@@ -1,0 +1,93 @@
+-- Reading a table after a change: at the changed core or register the new one stands, and everywhere else what stood there.
+use Prim.Native.Nat.{ℕ, _<_}
+use mathlib.Core.Bool.{Bool, true, false}
+use mathlib.Core.Logic.{_⊎_, inl, inr, _≢_}
+use mathlib.Core.Path.{_≡_, refl, sym, _∙_, ap, subst}
+use lib.Dec.{eqb}
+use lib.ListN.{length, getD, set, length-set}
+use lib.Seq.{getD-set-same, getD-set-other}
+use native.Mathlib.Omega.{arith}
+use borrow.Author.Tests.{eqb-true, eqb-false}
+use Rattle.ticket.specs.declared.kinds.Ticket.{Ticket}
+use Rattle.block.specs.Table.{cores, units, blank, idle, noUnit, coreOf, unitOf, registerIn, registerOf, withUnit, withRegister, withCore, withCounter}
+use Rattle.block.specs.declared.table.Register.{Register}
+use Rattle.block.specs.declared.table.LockUnit.{LockUnit}
+use Rattle.block.specs.declared.table.Core.{Core}
+use Rattle.block.specs.declared.table.Table.{Table}
+
+-- the arrays have their lengths, as those of every table that a program holds
+pub record Shaped (t : Table) : Type 0 where
+  pub cores-long : length (t .cores) ≡ cores
+  pub units-long : length (t .units) ≡ units
+  pub registers-long : (u : ℕ) → u < units → length (unitOf t u .registers) ≡ cores
+
+-- two numbers are the same or not
+pub same-or-not : (i j : ℕ) → (i ≡ j) ⊎ (i ≢ j)
+same-or-not i j = go (eqb i j) refl
+  where
+    go : (b : Bool) → eqb i j ≡ b → (i ≡ j) ⊎ (i ≢ j)
+    go true e = inl (eqb-true i j e)
+    go false e = inr (eqb-false i j e)
+
+module _ (t : Table) where
+  pub core-same : (k : ℕ) (c : Core) → Shaped t → k < cores → coreOf (withCore t k c) k ≡ c
+  core-same k c s h = getD-set-same (t .cores) k c idle (rw (s .cores-long) h)
+
+  pub core-other : (k j : ℕ) (c : Core) → j ≢ k → coreOf (withCore t k c) j ≡ coreOf t j
+  core-other k j c d = getD-set-other (t .cores) k j c idle d
+
+  pub unit-same : (u : ℕ) (x : LockUnit) → Shaped t → u < units → unitOf (withUnit t u x) u ≡ x
+  unit-same u x s h = getD-set-same (t .units) u x noUnit (rw (s .units-long) h)
+
+  pub unit-other : (u v : ℕ) (x : LockUnit) → v ≢ u → unitOf (withUnit t u x) v ≡ unitOf t v
+  unit-other u v x d = getD-set-other (t .units) u v x noUnit d
+
+  module _ (u k : ℕ) (r : Register) where
+    abbrev new : LockUnit
+    new = record { registers = set (unitOf t u .registers) k r }
+
+    pub register-same : Shaped t → u < units → k < cores → registerOf (withRegister t u k r) u k ≡ r
+    register-same s h l =
+        ap (λ (x : LockUnit). registerIn x k) (unit-same u new s h) ∙
+        getD-set-same (unitOf t u .registers) k r blank (rw (s .registers-long u h) l)
+
+    -- at another core of the same unit
+    pub register-core : (j : ℕ) → Shaped t → u < units → j ≢ k → registerOf (withRegister t u k r) u j ≡ registerOf t u j
+    register-core j s h d =
+        ap (λ (x : LockUnit). registerIn x j) (unit-same u new s h) ∙
+        getD-set-other (unitOf t u .registers) k j r blank d
+
+    -- at another unit
+    pub register-unit : (v j : ℕ) → v ≢ u → registerOf (withRegister t u k r) v j ≡ registerOf t v j
+    register-unit v j d =
+        ap (λ (x : LockUnit). registerIn x j) (unit-other u v new d)
+
+    pub shaped-register : Shaped t → u < units → Shaped (withRegister t u k r)
+    shaped-register s h =
+        record {
+          cores-long = s .cores-long;
+          units-long = length-set (t .units) u _ ∙ s .units-long;
+          registers-long = λ v l. go v l (same-or-not v u);
+        }
+      where
+        go : (v : ℕ) → v < units → (v ≡ u) ⊎ (v ≢ u) → length (unitOf (withRegister t u k r) v .registers) ≡ cores
+        go v l (inl e) =
+            ap (λ (w : ℕ). length (unitOf (withRegister t u k r) w .registers)) e ∙
+            ap (λ (x : LockUnit). length (x .registers)) (unit-same u new s h) ∙
+            length-set (unitOf t u .registers) k r ∙
+            s .registers-long u h
+        go v l (inr d) =
+            ap (λ (x : LockUnit). length (x .registers)) (unit-other u v new d) ∙
+            s .registers-long v l
+
+  pub shaped-core : (k : ℕ) (c : Core) → Shaped t → Shaped (withCore t k c)
+  shaped-core k c s =
+      record {
+        cores-long = length-set (t .cores) k c ∙ s .cores-long;
+        units-long = s .units-long;
+        registers-long = s .registers-long;
+      }
+
+  pub shaped-counter : (n : Ticket) → Shaped t → Shaped (withCounter t n)
+  shaped-counter n s =
+      record { cores-long = s .cores-long; units-long = s .units-long; registers-long = s .registers-long }

@@ -1,0 +1,144 @@
+-- What a step that is allowed says of its core, its unit and the counter.
+use Prim.Native.Nat.{ℕ, _≤_, _<_}
+use mathlib.Core.Bool.{Bool, true, false, _||_, not}
+use mathlib.Core.Logic.{_⊎_, inl, inr}
+use mathlib.Core.Path.{_≡_, refl}
+use native.Mathlib.Omega.{arith}
+use borrow.Author.Tests.{leb-false, ltb-false, not-false}
+use Rattle.ticket.specs.declared.kinds.CoreNo.{CoreNo}
+use Rattle.ticket.specs.declared.kinds.UnitNo.{UnitNo}
+use Rattle.block.specs.State.{isIdle, waits, holds, holdsOne, isAway}
+use Rattle.block.specs.Table.{coreOf, unitCount}
+use Rattle.block.specs.Verdict.{unless, noCore, noUnit, stateOf, wrongClass, stretched, mayRequest, mayNest, mayPoll, mayInterrupt, mayComeBack, mayRelease}
+use Rattle.block.specs.declared.table.State.{State}
+use Rattle.block.specs.declared.table.State.the-variants.{Idle, Waiting, Holding, WaitingSecond, HoldingBoth, Away}
+use Rattle.block.specs.declared.table.Table.{Table}
+use Rattle.block.specs.declared.answer.Answer.{Answer}
+use Rattle.block.specs.declared.verdict.Verdict.{Verdict}
+use Rattle.block.specs.declared.verdict.Verdict.the-variants.{Allowed, Refused}
+use Rattle.block.proofs.Bools.{clash}
+
+-- allowed only if the condition for the refusal does not hold
+unless-not : (b : Bool) (a : Answer) (v : Verdict) → unless b a v ≡ Allowed → (b ≡ false) × (v ≡ Allowed)
+unless-not true a v e = absurd (refused a e)
+  where
+    refused : (a : Answer) → Refused a ≡ Allowed → ⊥
+    refused a e = let z : _≡_ {A = ℕ} 0 1 = cc in omega arith
+unless-not false a v e = (refl, e)
+
+or-not : (a b : Bool) → (a || b) ≡ false → (a ≡ false) × (b ≡ false)
+or-not true b e = absurd (clash refl e)
+or-not false b e = (refl, e)
+
+-- the state from its test
+is-idle : (z : State) → isIdle z ≡ true → z ≡ Idle
+is-idle Idle e = refl
+is-idle Waiting e = absurd (clash e refl)
+is-idle Holding e = absurd (clash e refl)
+is-idle WaitingSecond e = absurd (clash e refl)
+is-idle HoldingBoth e = absurd (clash e refl)
+is-idle Away e = absurd (clash e refl)
+
+is-away : (z : State) → isAway z ≡ true → z ≡ Away
+is-away Idle e = absurd (clash e refl)
+is-away Waiting e = absurd (clash e refl)
+is-away Holding e = absurd (clash e refl)
+is-away WaitingSecond e = absurd (clash e refl)
+is-away HoldingBoth e = absurd (clash e refl)
+is-away Away e = refl
+
+is-holding : (z : State) → holdsOne z ≡ true → z ≡ Holding
+is-holding Idle e = absurd (clash e refl)
+is-holding Waiting e = absurd (clash e refl)
+is-holding Holding e = refl
+is-holding WaitingSecond e = absurd (clash e refl)
+is-holding HoldingBoth e = absurd (clash e refl)
+is-holding Away e = absurd (clash e refl)
+
+which-waits : (z : State) → waits z ≡ true → (z ≡ Waiting) ⊎ (z ≡ WaitingSecond)
+which-waits Idle e = absurd (clash e refl)
+which-waits Waiting e = inl refl
+which-waits Holding e = absurd (clash e refl)
+which-waits WaitingSecond e = inr refl
+which-waits HoldingBoth e = absurd (clash e refl)
+which-waits Away e = absurd (clash e refl)
+
+which-holds : (z : State) → holds z ≡ true → (z ≡ Holding) ⊎ (z ≡ HoldingBoth)
+which-holds Idle e = absurd (clash e refl)
+which-holds Waiting e = absurd (clash e refl)
+which-holds Holding e = inl refl
+which-holds WaitingSecond e = absurd (clash e refl)
+which-holds HoldingBoth e = inr refl
+which-holds Away e = absurd (clash e refl)
+
+module _ (t : Table) (k : CoreNo) where
+  pub record Requesting (u : UnitNo) : Type 0 where
+    pub within : k .0 < t .counts .cores
+    pub unit : u .0 < unitCount t
+    pub state : stateOf t k ≡ Idle
+    pub close : stretched t ≡ false
+
+  pub record Nesting (u : UnitNo) : Type 0 where
+    pub within : k .0 < t .counts .cores
+    pub unit : u .0 < unitCount t
+    pub state : stateOf t k ≡ Holding
+    pub second : t .counts .first ≤ u .0
+    pub first : coreOf t (k .0) .first .0 < t .counts .first
+
+  core-there : noCore t k ≡ false → k .0 < t .counts .cores
+  core-there e = leb-false (t .counts .cores) (k .0) e
+
+  unit-there : (u : UnitNo) → noUnit t u ≡ false → u .0 < unitCount t
+  unit-there u e = leb-false (unitCount t) (u .0) e
+
+  pub may-request : (u : UnitNo) → mayRequest t k u ≡ Allowed → Requesting u
+  may-request u e =
+      let a = unless-not (noCore t k) _ _ e in
+      let b = unless-not (noUnit t u) _ _ (a .1) in
+      let c = unless-not (not (isIdle (stateOf t k))) _ _ (b .1) in
+      record {
+        within = core-there (a .0);
+        unit = unit-there u (b .0);
+        state = is-idle (stateOf t k) (not-false (isIdle (stateOf t k)) (c .0));
+        close = unless-not (stretched t) _ _ (c .1) .0;
+      }
+
+  pub may-nest : (u : UnitNo) → mayNest t k u ≡ Allowed → Nesting u
+  may-nest u e =
+      let a = unless-not (noCore t k) _ _ e in
+      let b = unless-not (noUnit t u) _ _ (a .1) in
+      let c = unless-not (not (holdsOne (stateOf t k))) _ _ (b .1) in
+      let d = or-not _ _ (unless-not (wrongClass t k u) _ _ (c .1) .0) in
+      record {
+        within = core-there (a .0);
+        unit = unit-there u (b .0);
+        state = is-holding (stateOf t k) (not-false (holdsOne (stateOf t k)) (c .0));
+        second = ltb-false (u .0) (t .counts .first) (d .0);
+        first = leb-false (t .counts .first) (coreOf t (k .0) .first .0) (d .1);
+      }
+
+  pub may-poll : mayPoll t k ≡ Allowed → (k .0 < t .counts .cores) × ((stateOf t k ≡ Waiting) ⊎ (stateOf t k ≡ WaitingSecond))
+  may-poll e =
+      let a = unless-not (noCore t k) _ _ e in
+      let b = unless-not (not (waits (stateOf t k))) _ _ (a .1) in
+      (core-there (a .0), which-waits (stateOf t k) (not-false (waits (stateOf t k)) (b .0)))
+
+  pub may-interrupt :
+      mayInterrupt t k ≡ Allowed → (k .0 < t .counts .cores) × ((stateOf t k ≡ Waiting) ⊎ (stateOf t k ≡ WaitingSecond))
+  may-interrupt e =
+      let a = unless-not (noCore t k) _ _ e in
+      let b = unless-not (holds (stateOf t k)) _ _ (a .1) in
+      let c = unless-not (not (waits (stateOf t k))) _ _ (b .1) in
+      (core-there (a .0), which-waits (stateOf t k) (not-false (waits (stateOf t k)) (c .0)))
+
+  pub may-come-back : mayComeBack t k ≡ Allowed → (k .0 < t .counts .cores) × (stateOf t k ≡ Away)
+  may-come-back e =
+      let a = unless-not (noCore t k) _ _ e in
+      let b = unless-not (not (isAway (stateOf t k))) _ _ (a .1) in
+      (core-there (a .0), is-away (stateOf t k) (not-false (isAway (stateOf t k)) (b .0)))
+
+  pub may-release : mayRelease t k ≡ Allowed → (k .0 < t .counts .cores) × ((stateOf t k ≡ Holding) ⊎ (stateOf t k ≡ HoldingBoth))
+  may-release e =
+      let a = unless-not (noCore t k) _ _ e in
+      let b = unless-not (not (holds (stateOf t k))) _ _ (a .1) in
+      (core-there (a .0), which-holds (stateOf t k) (not-false (holds (stateOf t k)) (b .0)))

@@ -1,0 +1,14 @@
+pub mod Bools
+pub mod Folds
+pub mod Loops
+pub mod Refusals
+pub mod Parts
+pub mod Access
+pub mod Along
+pub mod Picking
+pub mod Allows
+pub mod Touching
+pub mod Standing
+pub mod Stepping
+pub mod Answering
+pub mod Determined

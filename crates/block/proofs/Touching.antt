@@ -1,0 +1,191 @@
+-- Settling all units is settling those that the step touched. A unit with nothing to settle is passed over; so the fold over all
+-- units stands still but at the touched ones, and giving up every register stands still but at the units where the core stood.
+use Prim.Native.Nat.{ℕ, zero, suc, _≤_, _<_}
+use mathlib.Core.Bool.{Bool, true, false, cond}
+use mathlib.Core.List.{List, [], _∷_, _++_, append-nil}
+use mathlib.Core.Logic.{_⊎_, inl, inr, ⊎-elim, _≢_}
+use mathlib.Core.Path.{_≡_, refl, sym, _∙_, ap, ap₂, subst}
+use native.Mathlib.Nat.{not-suc-le-zero}
+use native.Mathlib.Omega.{arith}
+use lib.Dec.{eqb}
+use lib.ListN.{set, getD}
+use lib.Seq.{set-getD}
+use borrow.Author.Tests.{eqb-true, eqb-false, ne-eqb, eq-eqb}
+use Rattle.ticket.specs.declared.kinds.Grant.{Grant}
+use Rattle.ticket.specs.declared.kinds.Ticket.{Ticket}
+use Rattle.ticket.specs.declared.kinds.UnitNo.{UnitNo}
+use Rattle.block.specs.Fold.{upTo}
+use Rattle.block.specs.Table.{cores, units, blank, flagged, noUnit, unitOf, registerOf, withUnit, withRegister}
+use Rattle.block.specs.Answer.{packed}
+use Rattle.block.specs.Settle.{flags, inLine, next, give, settleAt, Settling, won, settleNext, settle}
+use Rattle.block.specs.Steps.{settled, clear, giveUp}
+use Rattle.block.specs.Touched.{Calm, CalmTable, unsettled, settledOne, settledTwo}
+use Rattle.block.specs.declared.table.Register.{Register}
+use Rattle.block.specs.declared.table.LockUnit.{LockUnit}
+use Rattle.block.specs.declared.table.Table.{Table}
+use Rattle.block.specs.declared.settle.Settled.{Settled}
+use Rattle.block.specs.declared.settle.Best.{Best}
+use Rattle.block.specs.declared.settle.Best.the-variants.{Nobody, Core as Won}
+use Rattle.block.specs.declared.answer.Answer.{Answer}
+use Rattle.block.specs.declared.answer.Stepped.{Stepped}
+use Rattle.block.proofs.Access.{unit-other, register-unit}
+use Rattle.block.proofs.Picking.{next-won}
+
+-- a fold that stands still from a on is at n what it was at a
+pub still :
+    {A : Type 0} (f : ℕ → A → A) (x y : A) (a n : ℕ) →
+    upTo f a x ≡ y →
+    ((v : ℕ) → a ≤ v → v < n → f v y ≡ y) →
+    a ≤ n →
+    upTo f n x ≡ y
+unfolding upTo
+still f x y a zero so stands h = ap (λ (m : ℕ). upTo f m x) (let z : 0 ≡ a = omega arith in z) ∙ so
+still f x y a (suc n) so stands h = go (eqb a (suc n)) refl (still f x y a n so (λ v l m. stands v l (omega arith)))
+  where
+    go : (b : Bool) → eqb a (suc n) ≡ b → (a ≤ n → upTo f n x ≡ y) → f n (upTo f n x) ≡ y
+    go true e before = ap (λ (m : ℕ). upTo f m x) (sym (eqb-true a (suc n) e)) ∙ so
+    go false e before =
+        let d = eqb-false a (suc n) e in
+        ap (f n) (before (omega arith)) ∙ stands n (omega arith) (omega arith)
+
+-- Settling
+
+-- the unit is calm and the table stays, or one core in line gets its flag
+pub by-settling :
+    (t : Table) (u : ℕ) (P : Table → Type 0) →
+    (Calm (unitOf t u) → P t) →
+    ((k : ℕ) → k < cores → inLine (registerOf t u k) ≡ true → flags (unitOf t u) ≡ 0 → P (withRegister t u k (flagged (registerOf t u k)))) →
+    P (settleAt t u .table)
+by-settling t u P calm given = go (eqb (flags (unitOf t u)) 0) refl (next (unitOf t u)) refl
+  where
+    go :
+        (b : Bool) → eqb (flags (unitOf t u)) 0 ≡ b →
+        (w : Best) → next (unitOf t u) ≡ w →
+        P (cond b (give t u w) (give t u Nobody) .table)
+    go true e Nobody q = calm (λ e'. q)
+    go true e (Won k n) q =
+        let w = next-won (unitOf t u) k n q in
+        given (k .0) (w .2) (w .0) (eqb-true (flags (unitOf t u)) 0 e)
+    go false e w q = calm (λ e'. absurd (eqb-false (flags (unitOf t u)) 0 e e'))
+
+pub settleAt-unit : (t : Table) (u v : ℕ) → v ≢ u → unitOf (settleAt t u .table) v ≡ unitOf t v
+settleAt-unit t u v d = by-settling t u (λ z. unitOf z v ≡ unitOf t v) (λ calm. refl) (λ k l e none. unit-other t u v _ d)
+
+-- a unit with nothing to settle
+settleAt-calm : (t : Table) (u : ℕ) → Calm (unitOf t u) → settleAt t u ≡ give t u Nobody
+settleAt-calm t u calm = go (eqb (flags (unitOf t u)) 0) refl
+  where
+    go : (b : Bool) → eqb (flags (unitOf t u)) 0 ≡ b → cond b (give t u (next (unitOf t u))) (give t u Nobody) ≡ give t u Nobody
+    go true e = ap (give t u) (calm (eqb-true (flags (unitOf t u)) 0 e))
+    go false e = refl
+
+-- one more unit, by what it settled to
+after : Settling → ℕ → Settled → Settling
+after s u z = record { table = z .table; grants = s .grants ++ won u (z .winner) }
+
+calm-still : (s : Settling) (u : ℕ) → Calm (unitOf (s .table) u) → settleNext u s ≡ s
+unfolding after
+calm-still s u calm =
+    ap (after s u) (settleAt-calm (s .table) u calm) ∙
+    (λ i. record { table = s .table; grants = append-nil (s .grants) i })
+
+-- where the units from a to n are calm, settling goes on from a to n without a change
+onward :
+    (t : Table) (s : Settling) (a n : ℕ) →
+    upTo settleNext a (record { table = t; grants = [] }) ≡ s →
+    ((v : ℕ) → a ≤ v → v < n → Calm (unitOf (s .table) v)) →
+    a ≤ n →
+    upTo settleNext n (record { table = t; grants = [] }) ≡ s
+onward t s a n so calm h =
+    still settleNext (record { table = t; grants = [] }) s a n so (λ v l m. calm-still s v (calm v l m)) h
+
+-- no unit, one unit or two units to settle
+pub settle-none : (t : Table) → CalmTable t → settle t ≡ record { table = t; grants = [] }
+unfolding upTo
+settle-none t calm = onward t (record { table = t; grants = [] }) 0 units refl (λ v l m. calm v m) (omega arith)
+
+module _ (t : Table) (u : ℕ) (h : u < units) where
+  abbrev first-settled : Settling
+  first-settled = settleNext u (record { table = t; grants = [] })
+
+  -- after unit u, and up to n, where the units below n but u are calm
+  to-first : (n : ℕ) → u < n → n ≤ units → ((v : ℕ) → v < n → v ≢ u → Calm (unitOf t v)) → upTo settleNext n (record { table = t; grants = [] }) ≡ first-settled
+  unfolding upTo
+  to-first n l m calm =
+      onward t first-settled (suc u) n
+      (ap (settleNext u) (onward t (record { table = t; grants = [] }) 0 u refl (λ v a b. calm v (omega arith) (λ e. omega arith)) (omega arith)))
+      (λ v a b. subst Calm (sym (settleAt-unit t u v (λ e. omega arith))) (calm v b (λ e. omega arith)))
+      (omega arith)
+
+  pub settle-one : ((v : ℕ) → v < units → v ≢ u → Calm (unitOf t v)) → settle t ≡ first-settled
+  settle-one calm = to-first units h (omega arith) calm
+
+  pub settle-two :
+      (w : ℕ) → u < w → w < units → ((v : ℕ) → v < units → v ≢ u → v ≢ w → Calm (unitOf t v)) → settle t ≡ settleNext w first-settled
+  unfolding upTo
+  settle-two w l m calm =
+      onward t (settleNext w first-settled) (suc w) units
+      (ap (settleNext w) (to-first w l (omega arith) (λ v a d. calm v (omega arith) d (λ e. omega arith))))
+      (λ v a b. subst Calm (sym (settleAt-unit (first-settled .table) w v (λ e. omega arith) ∙ settleAt-unit t u v (λ e. omega arith))) (calm v b (λ e. omega arith) (λ e. omega arith)))
+      (omega arith)
+
+-- the same of a step's end
+finish : Answer → Ticket → Settling → Stepped
+finish a n s = record { table = s .table; answer = a; ticket = n; grants = packed (s .grants) }
+
+pub settled-none : (t : Table) (a : Answer) (n : Ticket) → CalmTable t → unsettled t a n ≡ settled t a n
+unfolding finish
+settled-none t a n calm = ap (finish a n) (sym (settle-none t calm))
+
+pub settled-one :
+    (t : Table) (u : UnitNo) (a : Answer) (n : Ticket) →
+    u .0 < units →
+    ((v : ℕ) → v < units → v ≢ u .0 → Calm (unitOf t v)) →
+    settledOne t u a n ≡ settled t a n
+unfolding finish
+settled-one t u a n h calm = ap (finish a n) (sym (settle-one t (u .0) h calm))
+
+pub settled-two :
+    (t : Table) (u w : UnitNo) (a : Answer) (n : Ticket) →
+    u .0 < w .0 →
+    w .0 < units →
+    ((v : ℕ) → v < units → v ≢ u .0 → v ≢ w .0 → Calm (unitOf t v)) →
+    settledTwo t u w a n ≡ settled t a n
+unfolding finish
+settled-two t u w a n l m calm = ap (finish a n) (sym (settle-two t (u .0) (omega arith) (w .0) l m calm))
+
+-- Giving up
+
+clear-blank : (t : Table) (k u : ℕ) → registerOf t u k ≡ blank → clear k u t ≡ t
+clear-blank t k u e =
+    ap (λ (r : Register). withRegister t u k r) (sym e) ∙
+    ap (λ (l : List Register). withUnit t u (record { registers = l })) (set-getD (unitOf t u .registers) k blank) ∙
+    ap (λ (l : List LockUnit). record { units = l; cores = t .cores; counts = t .counts; counter = t .counter }) (set-getD (t .units) u noUnit)
+
+module _ (t : Table) (k f : ℕ) where
+  abbrev first-cleared : Table
+  first-cleared = clear k f t
+
+  up-to-first : (n : ℕ) → f < n → ((v : ℕ) → v < n → v ≢ f → registerOf t v k ≡ blank) → upTo (clear k) n t ≡ first-cleared
+  unfolding upTo
+  up-to-first n h bare =
+      still (clear k) t first-cleared (suc f) n
+      (ap (clear k f) (still (clear k) t t 0 f refl (λ v a b. clear-blank t k v (bare v (omega arith) (λ e. omega arith))) (omega arith)))
+      (λ v a b. clear-blank first-cleared k v (register-unit t f k blank v k (λ e. omega arith) ∙ bare v b (λ e. omega arith)))
+      (omega arith)
+
+  -- a core that stood at one unit, or at two
+  pub giveUp-one : f < units → ((v : ℕ) → v < units → v ≢ f → registerOf t v k ≡ blank) → giveUp t k ≡ first-cleared
+  giveUp-one h bare = up-to-first units h bare
+
+  pub giveUp-two :
+      (g : ℕ) → f < g → g < units → ((v : ℕ) → v < units → v ≢ f → v ≢ g → registerOf t v k ≡ blank) → giveUp t k ≡ clear k g first-cleared
+  unfolding upTo
+  giveUp-two g l m bare =
+      still (clear k) t (clear k g first-cleared) (suc g) units
+      (ap (clear k g) (up-to-first g l (λ v a d. bare v (omega arith) d (λ e. omega arith))))
+      (λ v a b. clear-blank (clear k g first-cleared) k v
+      (register-unit first-cleared g k blank v k (λ e. omega arith) ∙
+      register-unit t f k blank v k (λ e. omega arith) ∙
+      bare v b (λ e. omega arith) (λ e. omega arith)))
+      (omega arith)

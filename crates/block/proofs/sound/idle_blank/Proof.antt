@@ -1,0 +1,14 @@
+-- `block::sound::idle_blank` meets its contract: the definition's own tests, the first as `is_idle` gives it.
+use borrow.Author.Needs.{needs}
+use Rattle.block.proofs.Bools.{either, flipped}
+use Rattle.block.proofs.sound.idle_blank.Statement.{statement}
+use Rattle.block.proofs.sound.idle_blank.Tie as tie
+
+is-idle-requires : tie.Need-is-idle-requires
+is-idle-requires c κs = search needs
+
+returns : tie.Need-returns
+returns c = search (either, flipped, needs)
+
+pub idle-blank-spec : {M : Type 1} → statement M
+idle-blank-spec = tie.close (tie.spec is-idle-requires returns)

@@ -1,0 +1,14 @@
+-- `block::sound::lends` meets its contract: the definition's own tests, the first as `unserved` gives it.
+use borrow.Author.Needs.{needs}
+use Rattle.block.proofs.Bools.{both}
+use Rattle.block.proofs.sound.lends.Statement.{statement}
+use Rattle.block.proofs.sound.lends.Tie as tie
+
+unserved-requires : tie.Need-unserved-requires
+unserved-requires c κs = search needs
+
+returns : tie.Need-returns
+returns c = search (both, needs)
+
+pub lends-spec : {M : Type 1} → statement M
+lends-spec = tie.close (tie.spec unserved-requires returns)

@@ -1,0 +1,40 @@
+-- `block::table::Table::units_sound` meets its contract: after u turns, ok says whether the first u units are sound.
+use borrow.Author.Needs.{needs}
+use Prim.Native.Nat.{_≤_, _-_}
+use mathlib.Core.Path.{_≡_}
+use Rattle.block.specs.Fold.{every}
+use Rattle.block.specs.Table.{units}
+use Rattle.block.specs.Sound.{unitSound}
+use Rattle.block.proofs.Folds.{none, finished}
+use Rattle.block.proofs.Loops.{every-more}
+use Rattle.block.proofs.table.Table.units_sound.Statement.{statement}
+use Rattle.block.proofs.table.Table.units_sound.Tie as tie
+
+abbrev Inv-loop : tie.InvT-loop
+Inv-loop self ok₀ u₀ ok u = (u ≤ units) × (ok ≡ every (unitSound self) u)
+
+abbrev μ-loop : tie.MeasureT-loop
+μ-loop self ok₀ u₀ ok u = units - u
+
+loop-holds : tie.Need-loop-holds Inv-loop μ-loop
+loop-holds c = search (none, needs)
+
+unit-sound-requires : tie.Need-unit-sound-requires Inv-loop μ-loop
+unit-sound-requires c κs = search needs
+
+add-u : tie.Need-add-u Inv-loop μ-loop
+add-u c = search needs
+
+loop-less : tie.Need-loop-less Inv-loop μ-loop
+loop-less c = search needs
+
+loop-again : tie.Need-loop-again Inv-loop μ-loop
+loop-again c = search (every-more, needs)
+
+returns : tie.Need-returns Inv-loop μ-loop
+returns c = search (finished, needs)
+
+pub units-sound-spec : {M : Type 1} → statement M
+units-sound-spec =
+    tie.close
+    (tie.spec Inv-loop μ-loop loop-holds unit-sound-requires add-u loop-less loop-again returns)

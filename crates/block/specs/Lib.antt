@@ -1,0 +1,11 @@
+pub mod Fold
+pub mod State
+pub mod Table
+pub mod Answer
+pub mod Build
+pub mod Settle
+pub mod Sound
+pub mod Verdict
+pub mod Steps
+pub mod Touched
+pub mod Parts

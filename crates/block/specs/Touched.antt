@@ -1,0 +1,38 @@
+-- What the code does for settling: it settles the one or two units that the step touched. That this is the settling of all units is
+-- proved where no other unit has anything to settle.
+use Prim.Native.Nat.{ℕ, _<_}
+use mathlib.Core.List.{_++_}
+use mathlib.Core.Path.{_≡_}
+use Rattle.ticket.specs.declared.kinds.Ticket.{Ticket}
+use Rattle.ticket.specs.declared.kinds.UnitNo.{UnitNo}
+use Rattle.block.specs.Table.{units, unitOf}
+use Rattle.block.specs.Answer.{packed}
+use Rattle.block.specs.Settle.{flags, next, settleAt, won}
+use Rattle.block.specs.declared.table.LockUnit.{LockUnit}
+use Rattle.block.specs.declared.table.Table.{Table}
+use Rattle.block.specs.declared.settle.Best.the-variants.{Nobody}
+use Rattle.block.specs.declared.answer.Answer.{Answer}
+use Rattle.block.specs.declared.answer.Grants.the-variants.{None}
+use Rattle.block.specs.declared.answer.Stepped.{Stepped}
+
+-- nothing to settle at a unit, and nowhere in a table
+abbrev pub Calm : LockUnit → Type 0
+Calm x = flags x ≡ 0 → next x ≡ Nobody
+
+abbrev pub CalmTable : Table → Type 0
+CalmTable t = (u : ℕ) → u < units → Calm (unitOf t u)
+
+-- a step that touched nothing that settles
+abbrev pub unsettled : Table → Answer → Ticket → Stepped
+unsettled t a n = record { table = t; answer = a; ticket = n; grants = None }
+
+abbrev pub settledOne : Table → UnitNo → Answer → Ticket → Stepped
+settledOne t u a n =
+    let s = settleAt t (u .0) in
+    record { table = s .table; answer = a; ticket = n; grants = packed (won (u .0) (s .winner)) }
+
+abbrev pub settledTwo : Table → UnitNo → UnitNo → Answer → Ticket → Stepped
+settledTwo t u v a n =
+    let s = settleAt t (u .0) in
+    let z = settleAt (s .table) (v .0) in
+    record { table = z .table; answer = a; ticket = n; grants = packed (won (u .0) (s .winner) ++ won (v .0) (z .winner)) }

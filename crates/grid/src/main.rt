@@ -1,0 +1,257 @@
+// Every step letter in every state of a core, allowed and refused; document 01's run; the refusals
+// 15, 16 and 20. Writes for each step its answer, ticket, number of grants, and unit and core of each
+// grant, parted by tabs.
+//
+// The stored output is what second/grid.py prints: a model written from document 01 alone.
+use block::Counts;
+use block::Grants;
+use block::Register;
+use block::Step;
+use block::Table;
+use libc::STDOUT_FILENO;
+use ticket::CoreNo;
+use ticket::Grant;
+use ticket::Ticket;
+use ticket::UnitNo;
+
+fn main() {
+    tries(begin());
+    tries(waiting());
+    tries(unpolled());
+    tries(holding());
+    tries(holding_second_class());
+    tries(waiting_second());
+    tries(heir());
+    tries(unpolled_second());
+    tries(holding_both());
+    tries(away());
+    document_run();
+    stretched(32767);
+    stretched(32768);
+    unsound();
+    ranges();
+}
+
+// Each letter for core 0, with units of both classes and one past them; and each for a core past
+// the count.
+fn tries(t: Table) {
+    take(t, Step::R(CoreNo(0), UnitNo(0)));
+    take(t, Step::R(CoreNo(0), UnitNo(3)));
+    take(t, Step::R(CoreNo(0), UnitNo(4)));
+    take(t, Step::N(CoreNo(0), UnitNo(0)));
+    take(t, Step::N(CoreNo(0), UnitNo(3)));
+    take(t, Step::N(CoreNo(0), UnitNo(4)));
+    take(t, Step::P(CoreNo(0)));
+    take(t, Step::I(CoreNo(0)));
+    take(t, Step::C(CoreNo(0)));
+    take(t, Step::L(CoreNo(0)));
+    take(t, Step::R(CoreNo(3), UnitNo(4)));
+    take(t, Step::N(CoreNo(3), UnitNo(0)));
+    take(t, Step::P(CoreNo(3)));
+    take(t, Step::I(CoreNo(3)));
+    take(t, Step::C(CoreNo(3)));
+    take(t, Step::L(CoreNo(3)));
+}
+
+// Core 0 idle.
+fn begin() -> Table {
+    build(3, 2, 2, 65534)
+}
+
+// Core 0 waiting, flag clear.
+fn waiting() -> Table {
+    let t = begin();
+    let t = take(t, Step::R(CoreNo(1), UnitNo(0)));
+    take(t, Step::R(CoreNo(0), UnitNo(0)))
+}
+
+// Core 0 waiting, flag set and not polled.
+fn unpolled() -> Table {
+    let t = begin();
+    let t = take(t, Step::R(CoreNo(0), UnitNo(0)));
+    take(t, Step::R(CoreNo(1), UnitNo(0)))
+}
+
+// Core 0 holding a first-class unit.
+fn holding() -> Table {
+    let t = begin();
+    let t = take(t, Step::R(CoreNo(0), UnitNo(0)));
+    let t = take(t, Step::R(CoreNo(1), UnitNo(0)));
+    take(t, Step::P(CoreNo(0)))
+}
+
+// Core 0 holding a second-class unit.
+fn holding_second_class() -> Table {
+    let t = begin();
+    let t = take(t, Step::R(CoreNo(0), UnitNo(2)));
+    let t = take(t, Step::R(CoreNo(1), UnitNo(2)));
+    take(t, Step::P(CoreNo(0)))
+}
+
+// Core 0 waiting at a second, flag clear.
+fn waiting_second() -> Table {
+    let t = begin();
+    let t = take(t, Step::R(CoreNo(1), UnitNo(2)));
+    let t = take(t, Step::R(CoreNo(0), UnitNo(0)));
+    let t = take(t, Step::P(CoreNo(0)));
+    let t = take(t, Step::R(CoreNo(2), UnitNo(0)));
+    take(t, Step::N(CoreNo(0), UnitNo(2)))
+}
+
+// Core 0 the same with an older ticket to inherit.
+fn heir() -> Table {
+    let t = begin();
+    let t = take(t, Step::R(CoreNo(2), UnitNo(0)));
+    let t = take(t, Step::R(CoreNo(1), UnitNo(2)));
+    let t = take(t, Step::R(CoreNo(0), UnitNo(0)));
+    let t = take(t, Step::I(CoreNo(2)));
+    let t = take(t, Step::P(CoreNo(0)));
+    let t = take(t, Step::N(CoreNo(0), UnitNo(2)));
+    take(t, Step::C(CoreNo(2)))
+}
+
+// Core 0 waiting at a second, flag set and not polled.
+fn unpolled_second() -> Table {
+    let t = begin();
+    let t = take(t, Step::R(CoreNo(0), UnitNo(0)));
+    let t = take(t, Step::P(CoreNo(0)));
+    let t = take(t, Step::R(CoreNo(1), UnitNo(0)));
+    take(t, Step::N(CoreNo(0), UnitNo(2)))
+}
+
+// Core 0 holding both.
+fn holding_both() -> Table {
+    let t = begin();
+    let t = take(t, Step::R(CoreNo(0), UnitNo(0)));
+    let t = take(t, Step::P(CoreNo(0)));
+    let t = take(t, Step::R(CoreNo(1), UnitNo(0)));
+    let t = take(t, Step::N(CoreNo(0), UnitNo(2)));
+    let t = take(t, Step::R(CoreNo(2), UnitNo(2)));
+    take(t, Step::P(CoreNo(0)))
+}
+
+// Core 0 away.
+fn away() -> Table {
+    let t = begin();
+    let t = take(t, Step::R(CoreNo(1), UnitNo(0)));
+    let t = take(t, Step::R(CoreNo(0), UnitNo(0)));
+    take(t, Step::I(CoreNo(0)))
+}
+
+// The run of document 01.
+fn document_run() {
+    let t = build(3, 1, 1, 65535);
+    let t = take(t, Step::R(CoreNo(0), UnitNo(1)));
+    let t = take(t, Step::P(CoreNo(0)));
+    let t = take(t, Step::R(CoreNo(2), UnitNo(0)));
+    let t = take(t, Step::R(CoreNo(1), UnitNo(0)));
+    let t = take(t, Step::I(CoreNo(2)));
+    let t = take(t, Step::P(CoreNo(1)));
+    let t = take(t, Step::N(CoreNo(1), UnitNo(1)));
+    let t = take(t, Step::C(CoreNo(2)));
+    let t = take(t, Step::P(CoreNo(1)));
+    let t = take(t, Step::I(CoreNo(0)));
+    let t = take(t, Step::L(CoreNo(0)));
+    let t = take(t, Step::P(CoreNo(1)));
+    take(t, Step::L(CoreNo(1)));
+}
+
+// A request with ticket 0 live and this counter.
+fn stretched(counter: u16) {
+    let s = build(3, 2, 2, 0).step(Step::R(CoreNo(0), UnitNo(0)));
+    let mut t = s.table;
+    let n = Ticket(counter);
+    t.counter = n;
+    take(t, Step::R(CoreNo(1), UnitNo(0)));
+}
+
+// Each letter on a table whose blank register shows a ticket.
+fn unsound() {
+    let mut t = begin();
+    let mut x = t.units[0];
+    x.registers[0] = Register {
+        ticket: Ticket(5),
+        valid: false,
+        flag: false,
+    };
+    t.units[0] = x;
+    take(t, Step::R(CoreNo(0), UnitNo(0)));
+    take(t, Step::N(CoreNo(0), UnitNo(2)));
+    take(t, Step::P(CoreNo(0)));
+    take(t, Step::I(CoreNo(0)));
+    take(t, Step::C(CoreNo(0)));
+    take(t, Step::L(CoreNo(0)));
+}
+
+// Counts at and past the ends of their ranges.
+fn ranges() {
+    range(1, 1, 0);
+    range(8, 8, 8);
+    range(0, 1, 0);
+    range(9, 1, 0);
+    range(1, 0, 0);
+    range(1, 9, 0);
+    range(1, 1, 9);
+}
+
+fn range(cores: u16, first: u16, second: u16) {
+    let counts = Counts {
+        cores,
+        first,
+        second,
+    };
+    let b = block::build(counts, Ticket(0));
+    let a = b.answer;
+    io::print_decimal(STDOUT_FILENO, block::number(a) as u64);
+    io::write_all(STDOUT_FILENO, b"\n");
+}
+
+fn build(cores: u16, first: u16, second: u16, counter: u16) -> Table {
+    let counts = Counts {
+        cores,
+        first,
+        second,
+    };
+    let b = block::build(counts, Ticket(counter));
+    b.table
+}
+
+// Takes one step and writes what it shows.
+fn take(t: Table, s: Step) -> Table {
+    let r = t.step(s);
+    let a = r.answer;
+    let n = r.ticket;
+    let g = r.grants;
+    io::print_decimal(STDOUT_FILENO, block::number(a) as u64);
+    field(n.0);
+    grants(g);
+    io::write_all(STDOUT_FILENO, b"\n");
+    r.table
+}
+
+fn field(n: u16) {
+    io::write_all(STDOUT_FILENO, b"\t");
+    io::print_decimal(STDOUT_FILENO, n as u64);
+}
+
+fn grants(g: Grants) {
+    match g {
+        Grants::None => field(0),
+        Grants::One(a) => {
+            field(1);
+            grant(a);
+        }
+        Grants::Two(a, b) => {
+            field(2);
+            grant(a);
+            grant(b);
+        }
+    }
+}
+
+fn grant(g: Grant) {
+    let u = g.unit;
+    let k = g.core;
+    field(u.0);
+    field(k.0);
+}

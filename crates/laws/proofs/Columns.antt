@@ -1,0 +1,277 @@
+-- A step changes one core and that core's registers: its column. What it must show of them for the table to be sound again, but for
+-- flags that are yet to be set.
+use Prim.Native.Nat.{ℕ, _+_, _<_, _≤_}
+use mathlib.Core.Bool.{Bool, true, false, cond, _&&_, _||_, not}
+use mathlib.Core.Logic.{_⊎_, inl, inr, _≢_}
+use mathlib.Core.Path.{_≡_, refl, sym, ap}
+use native.Mathlib.Omega.{arith}
+use lib.Dec.{eqb}
+use borrow.Author.Tests.{eqb-true, eq-eqb, ne-eqb, lt-ltb}
+use Rattle.ticket.specs.declared.kinds.Ticket.{Ticket}
+use Rattle.ticket.specs.declared.kinds.UnitNo.{UnitNo}
+use Rattle.block.specs.Fold.{some, one}
+use Rattle.block.specs.State.{isIdle, twoStage, unserved}
+use Rattle.block.specs.Table.{cores, units, core, coreOf, unitOf, registerOf}
+use Rattle.block.specs.Settle.{flags}
+use Rattle.block.specs.Sound as S
+use Rattle.block.specs.Parts.{CoreSound, Sound}
+use Rattle.block.specs.declared.table.Core.{Core}
+use Rattle.block.specs.declared.table.Register.{Register}
+use Rattle.block.specs.declared.table.State.{State}
+use Rattle.block.specs.declared.table.Table.{Table}
+use Rattle.block.proofs.Bools.{and-left, and-right, and-both, or-left, or-right, clash}
+use Rattle.block.proofs.Folds.{some-at, at-some, count-change}
+use Rattle.block.proofs.Access.{same-or-not}
+use Rattle.laws.proofs.Almost.{Almost}
+
+-- two cores that are live have different own tickets
+abbrev pub Apart : Core → Core → Type 0
+Apart c d = isIdle (c .state) ≡ false → isIdle (d .state) ≡ false → c .own .0 ≢ d .own .0
+
+pub apart-sym : (c d : Core) → Apart c d → Apart d c
+apart-sym c d a p q e = a q p (sym e)
+
+module _ (t : Table) (i j : ℕ) where
+  pub differ-apart : i ≢ j → S.differ t i j ≡ true → Apart (coreOf t i) (coreOf t j)
+  differ-apart d h p q e = clash h (simp (ne-eqb i j d, p, q, eq-eqb (coreOf t i .own .0) (coreOf t j .own .0) e))
+
+  pub apart-differ : (i ≢ j → Apart (coreOf t i) (coreOf t j)) → S.differ t i j ≡ true
+  apart-differ a = go (same-or-not i j)
+    where
+      last : (b c d : Bool) → (b ≡ false → c ≡ false → d ≡ false) → (b || c || not d) ≡ true
+      last true c d f = refl
+      last false true d f = refl
+      last false false d f = ap not (f refl refl)
+
+      go : (i ≡ j) ⊎ (i ≢ j) → S.differ t i j ≡ true
+      go (inl e) = simp (eq-eqb i j e)
+      go (inr d) =
+          simp (ne-eqb i j d)
+          (last (isIdle (coreOf t i .state)) (isIdle (coreOf t j .state)) _
+          (λ p q. ne-eqb (coreOf t i .own .0) (coreOf t j .own .0) (a d p q)))
+
+-- core d lends its ticket to c
+pub record Lends (c d : Core) : Type 0 where
+  pub unserved : unserved (d .state) ≡ true
+  pub first : d .first .0 ≡ c .first .0
+  pub own : d .own .0 ≡ c .carried .0
+
+pub lent : (c d : Core) → S.lends c d ≡ true → Lends c d
+lent c d h =
+    let p = unserved (d .state) in
+    let q = eqb (d .first .0) (c .first .0) in
+    let l = and-left (p && q) _ h in
+    record {
+      unserved = and-left p q l;
+      first = eqb-true (d .first .0) (c .first .0) (and-right p q l);
+      own = eqb-true (d .own .0) (c .carried .0) (and-right (p && q) _ h);
+    }
+
+pub lending : (c d : Core) → Lends c d → S.lends c d ≡ true
+lending c d l =
+    and-both
+    (and-both (l .unserved) (eq-eqb (d .first .0) (c .first .0) (l .first)))
+    (eq-eqb (d .own .0) (c .carried .0) (l .own))
+
+-- what a core carries is there after a change too, if its lender still lends
+pub carries-kept :
+    (t t' : Table) (c : Core) →
+    (twoStage (c .state) ≡ true → (j : ℕ) → S.lends c (coreOf t j) ≡ true → S.lends c (coreOf t' j) ≡ true) →
+    S.carries t c ≡ true →
+    S.carries t' c ≡ true
+carries-kept t t' c lenders = go (twoStage (c .state)) (eqb (c .carried .0) (c .own .0)) _ _ (λ two. still (lenders two))
+  where
+    still :
+        ((j : ℕ) → S.lends c (coreOf t j) ≡ true → S.lends c (coreOf t' j) ≡ true) →
+        some (λ (j : ℕ). S.lends c (coreOf t j)) cores ≡ true →
+        some (λ (j : ℕ). S.lends c (coreOf t' j)) cores ≡ true
+    still f h =
+        let w = some-at (λ (j : ℕ). S.lends c (coreOf t j)) cores h in
+        at-some (λ (j : ℕ). S.lends c (coreOf t' j)) cores (w .0) (w .1) (f (w .0) (w .2))
+
+    go :
+        (b x o y : Bool) {p q : Bool} →
+        (b ≡ true → p ≡ true → q ≡ true) →
+        cond b (x || (p && o)) y ≡ true →
+        cond b (x || (q && o)) y ≡ true
+    go true true o y f h = refl
+    go true false o y {p} f h = and-both (f refl (and-left p o h)) (and-right p o h)
+    go false x o y f h = h
+
+-- a core that lends to nobody may change
+pub lenders-others :
+    (t t' : Table) (k : ℕ) (c : Core) →
+    ((j : ℕ) → j ≢ k → coreOf t' j ≡ coreOf t j) →
+    unserved (coreOf t k .state) ≡ false →
+    S.carries t c ≡ true →
+    S.carries t' c ≡ true
+lenders-others t t' k c others served = carries-kept t t' c (λ two j l. lender j l (same-or-not j k))
+  where
+    lender : (j : ℕ) → S.lends c (coreOf t j) ≡ true → (j ≡ k) ⊎ (j ≢ k) → S.lends c (coreOf t' j) ≡ true
+    lender j l (inl e) = absurd (clash (lent c (coreOf t j) l .unserved) (rw e served))
+    lender j l (inr d) = rw (others j d) l
+
+-- at most one flag in a unit of a sound table
+pub sound-few : (t : Table) → Sound t → (u : ℕ) → u < units → flags (unitOf t u) ≤ 1
+sound-few t s u h = go (S.anyValid (unitOf t u)) (eqb-true (flags (unitOf t u)) _ (s .unit u h .oneFlag))
+  where
+    go : (b : Bool) → flags (unitOf t u) ≡ one b → flags (unitOf t u) ≤ 1
+    go true e = omega arith
+    go false e = omega arith
+
+pub sound-almost : (t : Table) → Sound t → Almost t
+sound-almost t s =
+    record { counts = s .counts; core = s .core; agrees = λ u h. s .unit u h .agrees; few = sound-few t s }
+
+-- nothing but the column of core k has moved, and the core has become c
+pub record Moved (t t' : Table) (k : ℕ) (c : Core) : Type 0 where
+  pub counts : t' .counts ≡ t .counts
+  pub becomes : coreOf t' k ≡ c
+  pub others : (j : ℕ) → j ≢ k → coreOf t' j ≡ coreOf t j
+  pub registers : (u : ℕ) → u < units → (j : ℕ) → j ≢ k → registerOf t' u j ≡ registerOf t u j
+
+-- and what the column shows is sound
+pub record Column (t t' : Table) (k : ℕ) (c : Core) : Type 0 where
+  pub moved : Moved t t' k c
+  pub within : k < t .counts .cores
+  pub idleBlank : S.idleBlank c ≡ true
+  pub named : S.named t c ≡ true
+  pub recent : S.recent t' c ≡ true
+  pub othersRecent : (j : ℕ) → j < cores → j ≢ k → S.recent t' (coreOf t j) ≡ true
+  pub apart : (j : ℕ) → j < cores → j ≢ k → Apart c (coreOf t j)
+  pub carries : S.carries t' c ≡ true
+  pub lends :
+      (j : ℕ) →
+      j < cores →
+      j ≢ k →
+      twoStage (coreOf t j .state) ≡ true →
+      Lends (coreOf t j) (coreOf t k) →
+      Lends (coreOf t j) c
+  pub agrees : (u : ℕ) → u < units → S.agrees c u (registerOf t' u k) ≡ true
+  pub flag : (u : ℕ) → u < units → (registerOf t' u k .flag ≡ false) ⊎ (registerOf t' u k .flag ≡ registerOf t u k .flag)
+
+module _ (t t' : Table) (k : ℕ) (c : Core) (s : Sound t) (small : k < cores) (col : Column t t' k c) where
+  -- k's flags go out or stay, so no unit has more of them
+  column-few : (u : ℕ) → u < units → flags (unitOf t' u) ≤ 1
+  column-few u h =
+      go _ _ (col .flag u h)
+      (count-change (λ (j : ℕ). registerOf t' u j .flag) (λ (j : ℕ). registerOf t u j .flag) cores k small
+      (λ j d. ap (λ (r : Register). r .flag) (col .moved .registers u h j d)))
+      (sound-few t s u h)
+    where
+      go :
+          (b b' : Bool) →
+          (b' ≡ false) ⊎ (b' ≡ b) →
+          flags (unitOf t' u) + one b ≡ flags (unitOf t u) + one b' →
+          flags (unitOf t u) ≤ 1 →
+          flags (unitOf t' u) ≤ 1
+      go b b' (inl e) eq le = let z : one b' ≡ 0 = ap one e in omega arith
+      go b b' (inr e) eq le = let z : one b' ≡ one b = ap one e in omega arith
+
+  column-carries : (j : ℕ) → j < cores → j ≢ k → S.carries t' (coreOf t j) ≡ true
+  column-carries j h d =
+      carries-kept t t' (coreOf t j) (λ two i l. lender i two l (same-or-not i k)) (s .core j h .carries)
+    where
+      lender :
+          (i : ℕ) →
+          twoStage (coreOf t j .state) ≡ true →
+          S.lends (coreOf t j) (coreOf t i) ≡ true →
+          (i ≡ k) ⊎ (i ≢ k) →
+          S.lends (coreOf t j) (coreOf t' i) ≡ true
+      lender i two l (inl e) =
+          rw (e, col .moved .becomes)
+          (lending (coreOf t j) c (col .lends j h d two (lent (coreOf t j) (coreOf t k) (rw e at l))))
+      lender i two l (inr d') = rw (col .moved .others i d') l
+
+  -- the core that changed, and another
+  column-core : CoreSound t' k
+  column-core =
+      record {
+        within = rw (col .moved .counts) (or-left _ (lt-ltb k (t .counts .cores) (col .within)));
+        idleBlank = rw (col .moved .becomes) (col .idleBlank);
+        named = rw (col .moved .becomes, col .moved .counts) (col .named);
+        recent = rw (col .moved .becomes) (col .recent);
+        differ = λ j h.
+            apart-differ t' k j (λ d.
+            let d' : j ≢ k = λ e. d (sym e) in
+            rw (col .moved .becomes, col .moved .others j d') (col .apart j h d'));
+        carries = rw (col .moved .becomes) (col .carries);
+      }
+
+  other-core : (j : ℕ) → j < cores → j ≢ k → CoreSound t' j
+  other-core j h d =
+      let x = s .core j h in
+      record {
+        within = rw (col .moved .counts, col .moved .others j d) (x .within);
+        idleBlank = rw (col .moved .others j d) (x .idleBlank);
+        named = rw (col .moved .others j d, col .moved .counts) (x .named);
+        recent = rw (col .moved .others j d) (col .othersRecent j h d);
+        differ = λ i l. apart-differ t' j i (λ e. go i l e (same-or-not i k));
+        carries = rw (col .moved .others j d) (column-carries j h d);
+      }
+    where
+      go : (i : ℕ) → i < cores → j ≢ i → (i ≡ k) ⊎ (i ≢ k) → Apart (coreOf t' j) (coreOf t' i)
+      go i l d' (inl e) = rw (e, col .moved .becomes, col .moved .others j d) (apart-sym c (coreOf t j) (col .apart j h d))
+      go i l d' (inr e) = rw (col .moved .others i e, col .moved .others j d) (differ-apart t j i d' (s .core j h .differ i l))
+
+  pub column-changed : Almost t'
+  column-changed =
+      record {
+        counts = rw (col .moved .counts) (s .counts);
+        core = λ j h. core j h (same-or-not j k);
+        agrees = λ u l j h. agrees u l j h (same-or-not j k);
+        few = column-few;
+      }
+    where
+      core : (j : ℕ) → j < cores → (j ≡ k) ⊎ (j ≢ k) → CoreSound t' j
+      core j h (inl e) = rw e column-core
+      core j h (inr d) = other-core j h d
+
+      agrees : (u : ℕ) → u < units → (j : ℕ) → j < cores → (j ≡ k) ⊎ (j ≢ k) → S.agrees (coreOf t' j) u (registerOf t' u j) ≡ true
+      agrees u l j h (inl e) = rw (e, col .moved .becomes) (col .agrees u l)
+      agrees u l j h (inr d) = rw (col .moved .others j d, col .moved .registers u l j d) (s .unit u l .agrees j h)
+
+-- a core that keeps its own ticket and its first unit; it carries n, has v for its second unit, and its state is z
+abbrev pub stays : Core → Ticket → UnitNo → State → Core
+stays c n v z = core (c .own) n (c .first) v z
+
+-- the column of a live core that does so, while the counter stands
+pub record Staying (t t' : Table) (k : ℕ) (n : Ticket) (v : UnitNo) (z : State) : Type 0 where
+  pub moved : Moved t t' k (stays (coreOf t k) n v z)
+  pub counter : t' .counter ≡ t .counter
+  pub within : k < t .counts .cores
+  pub was : isIdle (coreOf t k .state) ≡ false
+  pub live : isIdle z ≡ false
+  pub named : S.names t (stays (coreOf t k) n v z) (twoStage z) ≡ true
+  pub carries : S.carries t' (stays (coreOf t k) n v z) ≡ true
+  pub lends :
+      (j : ℕ) →
+      j < cores →
+      j ≢ k →
+      twoStage (coreOf t j .state) ≡ true →
+      Lends (coreOf t j) (coreOf t k) →
+      unserved z ≡ true
+  pub agrees : (u : ℕ) → u < units → S.agrees (stays (coreOf t k) n v z) u (registerOf t' u k) ≡ true
+  pub flag : (u : ℕ) → u < units → (registerOf t' u k .flag ≡ false) ⊎ (registerOf t' u k .flag ≡ registerOf t u k .flag)
+
+pub stayed :
+    (t t' : Table) (k : ℕ) (n : Ticket) (v : UnitNo) (z : State) →
+    Sound t →
+    k < cores →
+    Staying t t' k n v z →
+    Almost t'
+stayed t t' k n v z s small y =
+    column-changed t t' k (stays (coreOf t k) n v z) s small
+    (record {
+      moved = y .moved;
+      within = y .within;
+      idleBlank = simp (y .live);
+      named = or-right (isIdle z) (y .named);
+      recent = rw (y .counter) (or-right (isIdle z) (simp (y .was) at (s .core k small .recent)));
+      othersRecent = λ j h d. rw (y .counter) (s .core j h .recent);
+      apart = λ j h d p. differ-apart t k j (λ e. d (sym e)) (s .core k small .differ j h) (y .was);
+      carries = y .carries;
+      lends = λ j h d two l. record { unserved = y .lends j h d two l; first = l .first; own = l .own };
+      agrees = y .agrees;
+      flag = y .flag;
+    })

@@ -1,0 +1,592 @@
+-- The grants of settling, and so those of every step. Settling lists exactly the grants that are due, by rising unit, since a unit is
+-- settled as it was before the others; an accepted step leaves at most one unit of each class to settle, and whoever is in line
+-- waits there.
+use Prim.Native.Nat.{ℕ, suc, _≤_, _<_}
+use mathlib.Core.Bool.{Bool, true, false, cond, _&&_, _||_, not}
+use mathlib.Core.List.{List, [], _∷_, _++_, List·Memᴰ, List·Memᴰ·head, List·Memᴰ·tail, List·Memᴰ·not-nil, List·Memᴰ·eq-of-singleton, List·Memᴰ·append-cases, Memᴰ·append-left, Memᴰ·append-right}
+use mathlib.Core.Logic.{_⊎_, inl, inr, ⊎-elim, _≢_}
+use mathlib.Core.Path.{_≡_, refl, sym, _∙_, ap, ap₂, subst}
+use native.Mathlib.Nat.{not-suc-le-zero}
+use native.Mathlib.Omega.{arith}
+use lib.Dec.{eqb}
+use lib.ListN.{getD}
+use borrow.Author.Tests.{eqb-true, eq-eqb}
+use Rattle.ticket.specs.Kinds.{ticket, grant}
+use Rattle.ticket.specs.Order.{after}
+use Rattle.ticket.specs.declared.kinds.CoreNo.{CoreNo}
+use Rattle.ticket.specs.declared.kinds.Grant.{Grant}
+use Rattle.ticket.specs.declared.kinds.Ticket.{Ticket}
+use Rattle.block.specs.State.{stands, twoStage, waits}
+use Rattle.block.specs.Table.{cores, units, unitNo, standing, idle, coreOf, unitOf, registerIn, registerOf, unitCount, withRegister, withCore, withCounter}
+use Rattle.block.specs.Answer.{packed, refusal}
+use Rattle.block.specs.Settle.{Settling, flags, inLine, next, give, settleAt, won, settleNext, settle}
+use Rattle.block.specs.Sound as S
+use Rattle.block.specs.Sound.{sound}
+use Rattle.block.specs.Parts.{Sound}
+use Rattle.laws.specs.Granting.{listed, Rising, Classes, winner, Due, DueIn, anyInLine}
+use Rattle.block.specs.Steps.{settled, giveUp, requested, nested, interrupted, cameBack, released, awaited, inherited, carrying, granted, polled, onSound}
+use Rattle.block.specs.Touched.{Calm, CalmTable}
+use Rattle.block.specs.Verdict.{answered, mayRequest, mayNest, mayPoll, mayInterrupt, mayComeBack, mayRelease}
+use Rattle.block.specs.declared.table.Core.{Core}
+use Rattle.block.specs.declared.table.LockUnit.{LockUnit}
+use Rattle.block.specs.declared.table.Register.{Register}
+use Rattle.block.specs.declared.table.State.{State}
+use Rattle.block.specs.declared.table.State.the-variants.{Idle, Waiting, Holding, WaitingSecond, HoldingBoth, Away}
+use Rattle.block.specs.declared.table.Table.{Table}
+use Rattle.block.specs.declared.settle.Best.{Best}
+use Rattle.block.specs.declared.settle.Best.the-variants.{Nobody, Core as Won}
+use Rattle.block.specs.declared.answer.Answer.{Answer}
+use Rattle.block.specs.declared.answer.Answer.the-variants.{NotYet}
+use Rattle.block.specs.declared.answer.Grants.the-variants.{Two}
+use Rattle.block.specs.declared.answer.Step.{Step}
+use Rattle.block.specs.declared.answer.Step.the-variants.{R, N, P, I, C, L}
+use Rattle.block.specs.declared.answer.Stepped.{Stepped}
+use Rattle.block.specs.declared.verdict.Verdict.{Verdict}
+use Rattle.block.specs.declared.verdict.Verdict.the-variants.{Allowed, Refused}
+use Rattle.block.proofs.Access.{Shaped, same-or-not}
+use Rattle.laws.proofs.Almost.{Almost}
+use Rattle.block.proofs.Along.{along, upTo-cong}
+use Rattle.block.proofs.Answering.{request-in, nest-in, poll-in, interrupt-in, come-back-in, release-in}
+use Rattle.block.proofs.Bools.{clash}
+use Rattle.laws.proofs.Columns.{sound-almost}
+use Rattle.block.proofs.Folds.{at-some, none-some, count-none}
+use Rattle.laws.proofs.Kept.{Two as Both, names-two, two-stage, backMoves, almost-come-back, interruptMoves, almost-interrupt, releaseMoves, almost-release, nestMoves, almost-nest, requestMoves, almost-request, grantedMoves, almost-granted, blank-out, held-out, almost-carrying}
+use Rattle.block.proofs.Parts.{parts}
+use Rattle.block.proofs.Picking.{next-won, nobody-next}
+use Rattle.laws.proofs.Settling.{settle-same}
+use Rattle.block.proofs.Standing.{sound-calm}
+use Rattle.block.proofs.Stepping.{calm-elsewhere, first-unit, second-unit, clears-one, clears-two, one-calm, two-calm, carrying-calm, awaited-second}
+use Rattle.block.proofs.Touching.{settle-none, settle-one, settle-two, settleAt-unit}
+
+-- Who wins a unit
+
+settleAt-winner : (t : Table) (u : ℕ) → settleAt t u .winner ≡ winner (unitOf t u)
+settleAt-winner t u = go (eqb (flags (unitOf t u)) 0) (next (unitOf t u))
+  where
+    go : (b : Bool) (w : Best) → cond b (give t u w) (give t u Nobody) .winner ≡ cond b w Nobody
+    go true Nobody = refl
+    go true (Won k n) = refl
+    go false w = refl
+
+module _ (x : LockUnit) (n : ℕ) (g : Grant) where
+  won-due : List·Memᴰ g (won n (winner x)) → (g .unit .0 ≡ n) × Due x (g .core)
+  won-due = go (eqb (flags x) 0) refl (next x) refl
+    where
+      go :
+          (b : Bool) → eqb (flags x) 0 ≡ b →
+          (w : Best) → next x ≡ w →
+          List·Memᴰ g (won n (cond b w Nobody)) → (g .unit .0 ≡ n) × Due x (g .core)
+      go true e Nobody q m = absurd (List·Memᴰ·not-nil m)
+      go true e (Won k t) q m =
+          let same = List·Memᴰ·eq-of-singleton m in (
+            ap (λ (h : Grant). h .unit .0) same,
+            record {
+              free = eqb-true (flags x) 0 e;
+              ticket = t;
+              oldest = q ∙ ap (λ (h : Grant). Won (h .core) t) (sym same);
+            },
+          )
+      go false e w q m = absurd (List·Memᴰ·not-nil m)
+
+  due-won : g .unit .0 ≡ n → Due x (g .core) → List·Memᴰ g (won n (winner x))
+  due-won e d =
+      let w : winner x ≡ Won (g .core) (d .ticket) = simp (eq-eqb (flags x) 0 (d .free), d .oldest) in
+      subst (λ (b : Best). List·Memᴰ g (won n b)) (sym w) (List·Memᴰ·head (ap (λ (u : ℕ). grant (unitNo u) (g .core)) e))
+
+-- Settling all units
+
+won-rising : (n : ℕ) (b : Best) → Rising (won n b)
+unfolding Rising
+won-rising n Nobody = tt
+won-rising n (Won k m) = (λ h e. absurd (List·Memᴰ·not-nil e), tt)
+
+-- rising lists of which the first ends before the second
+rising-join :
+    (l m : List Grant) →
+    Rising l →
+    Rising m →
+    ((g h : Grant) → List·Memᴰ g l → List·Memᴰ h m → g .unit .0 < h .unit .0) →
+    Rising (l ++ m)
+unfolding Rising
+rising-join [] m a b apart = b
+rising-join (g ∷ l) m a b apart = (
+  λ h e. ⊎-elim (a .0 h) (apart g h (List·Memᴰ·head refl)) (List·Memᴰ·append-cases l e),
+  rising-join l m (a .1) b (λ g' h e. apart g' h (List·Memᴰ·tail e)),
+)
+
+-- after the units below n
+record SettledTo (t : Table) (n : ℕ) (z : Settling) : Type 0 where
+  ahead : (v : ℕ) → n ≤ v → unitOf (z .table) v ≡ unitOf t v
+  due : (g : Grant) → List·Memᴰ g (z .grants) → (g .unit .0 < n) × Due (unitOf t (g .unit .0)) (g .core)
+  all : (g : Grant) → g .unit .0 < n → Due (unitOf t (g .unit .0)) (g .core) → List·Memᴰ g (z .grants)
+  rising : Rising (z .grants)
+
+module _ (t : Table) where
+  settled-turn : (n : ℕ) (z : Settling) → SettledTo t n z → SettledTo t (suc n) (settleNext n z)
+  settled-turn n z s =
+      record {
+        ahead = λ v h. settleAt-unit (z .table) n v (λ e. omega arith) ∙ s .ahead v (omega arith);
+        due = λ g m. ⊎-elim (before g) (last g) (List·Memᴰ·append-cases (z .grants) m);
+        all = λ g h d. all g h d (same-or-not (g .unit .0) n);
+        rising =
+            rising-join (z .grants) (won n (settleAt (z .table) n .winner)) (s .rising) (won-rising n (settleAt (z .table) n .winner))
+            (λ g h a b. omega (arith, s .due g a .0, at-n h b .0));
+      }
+    where
+      here : settleAt (z .table) n .winner ≡ winner (unitOf t n)
+      here = settleAt-winner (z .table) n ∙ ap winner (s .ahead n (omega arith))
+
+      before : (g : Grant) → List·Memᴰ g (z .grants) → (g .unit .0 < suc n) × Due (unitOf t (g .unit .0)) (g .core)
+      before g m = let d = s .due g m in (omega arith, d .1)
+
+      at-n : (g : Grant) → List·Memᴰ g (won n (settleAt (z .table) n .winner)) → (g .unit .0 ≡ n) × Due (unitOf t n) (g .core)
+      at-n g m = won-due (unitOf t n) n g (subst (λ (b : Best). List·Memᴰ g (won n b)) here m)
+
+      last :
+          (g : Grant) →
+          List·Memᴰ g (won n (settleAt (z .table) n .winner)) →
+          (g .unit .0 < suc n) × Due (unitOf t (g .unit .0)) (g .core)
+      last g m =
+          let d = at-n g m in
+          let e = d .0 in
+          (omega arith, subst (λ (u : ℕ). Due (unitOf t u) (g .core)) (sym e) (d .1))
+
+      all :
+          (g : Grant) →
+          g .unit .0 < suc n →
+          Due (unitOf t (g .unit .0)) (g .core) →
+          (g .unit .0 ≡ n) ⊎ (g .unit .0 ≢ n) →
+          List·Memᴰ g (settleNext n z .grants)
+      all g h d (inl e) =
+          Memᴰ·append-right (z .grants)
+          (subst (λ (b : Best). List·Memᴰ g (won n b)) (sym here)
+          (due-won (unitOf t n) n g e (subst (λ (u : ℕ). Due (unitOf t u) (g .core)) e d)))
+      all g h d (inr q) = Memᴰ·append-left (won n (settleAt (z .table) n .winner)) (s .all g (omega arith) d)
+
+  settled-to : SettledTo t units (settle t)
+  unfolding Rising
+  settled-to =
+      along (SettledTo t) settleNext (record { table = t; grants = [] })
+      (record {
+        ahead = λ v h. refl;
+        due = λ g m. absurd (List·Memᴰ·not-nil m);
+        all = λ g h d. absurd (not-suc-le-zero h);
+        rising = tt;
+      })
+      units (λ n h. settled-turn n)
+
+  -- the grants are those due, by rising unit
+  pub settled-exactly :
+      (g : Grant) → (List·Memᴰ g (settle t .grants) → DueIn t g) × (DueIn t g → List·Memᴰ g (settle t .grants))
+  settled-exactly g = (
+    λ m. let d = settled-to .due g m in record { place = d .0; due = d .1 },
+    λ d. settled-to .all g (d .place) (d .due),
+  )
+
+  pub settled-rising : Rising (settle t .grants)
+  settled-rising = settled-to .rising
+
+-- a unit without a flag has its valid registers in line
+free-line : (x : LockUnit) → flags x ≡ 0 → anyInLine x ≡ S.anyValid x
+free-line x none =
+    upTo-cong (λ (k : ℕ) (b : Bool). b || inLine (registerIn x k)) (λ (k : ℕ) (b : Bool). b || registerIn x k .valid) cores false
+    (λ k h b. ap (λ (v : Bool). b || v) (clear (registerIn x k) (count-none (λ (j : ℕ). registerIn x j .flag) cores none k h)))
+  where
+    clear : (r : Register) → r .flag ≡ false → inLine r ≡ r .valid
+    clear r e = ap (λ (f : Bool). r .valid && not f) e ∙ and-one (r .valid)
+      where
+        and-one : (b : Bool) → (b && true) ≡ b
+        and-one true = refl
+        and-one false = refl
+
+-- somebody is due exactly where a unit has no flag and some register in line
+due-line : (x : LockUnit) (k : CoreNo) → Due x k → anyInLine x ≡ true
+due-line x k d =
+    let w = next-won x k (d .ticket) (d .oldest) in
+    at-some (λ (j : ℕ). inLine (registerIn x j)) cores (k .0) (w .2) (w .0)
+
+line-due : (x : LockUnit) → flags x ≡ 0 → anyInLine x ≡ true → (k : CoreNo) × Due x k
+line-due x none line = go (next x) refl
+  where
+    go : (b : Best) → next x ≡ b → (k : CoreNo) × Due x k
+    go Nobody q = absurd (clash line (none-some (λ (j : ℕ). inLine (registerIn x j)) cores (nobody-next x q)))
+    go (Won k n) q = (k, record { free = none; ticket = n; oldest = q })
+
+-- the units that are granted: by registers in line, and by valid registers
+module _ (t : Table) (u : ℕ) (h : u < units) where
+  abbrev Given : Type 0
+  Given = (k : CoreNo) × List·Memᴰ (grant (unitNo u) k) (settle t .grants)
+
+  pub settled-in-line :
+      (Given → (flags (unitOf t u) ≡ 0) × (anyInLine (unitOf t u) ≡ true)) ×
+      ((flags (unitOf t u) ≡ 0) × (anyInLine (unitOf t u) ≡ true) → Given)
+  settled-in-line = (
+    λ g. let d = settled-exactly t (grant (unitNo u) (g .0)) .0 (g .1) .due in (d .free, due-line (unitOf t u) (g .0) d),
+    λ e.
+        let d = line-due (unitOf t u) (e .0) (e .1) in
+        (d .0, settled-exactly t (grant (unitNo u) (d .0)) .1 (record { place = h; due = d .1 })),
+  )
+
+  pub settled-valid :
+      (Given → (flags (unitOf t u) ≡ 0) × (S.anyValid (unitOf t u) ≡ true)) ×
+      ((flags (unitOf t u) ≡ 0) × (S.anyValid (unitOf t u) ≡ true) → Given)
+  settled-valid = (
+    λ g. let e = settled-in-line .0 g in (e .0, sym (free-line (unitOf t u) (e .0)) ∙ e .1),
+    λ e. settled-in-line .1 (e .0, free-line (unitOf t u) (e .0) ∙ e .1),
+  )
+
+-- Whoever is in line waits there: a register in line is neither blank nor that of a holder
+
+line-waits :
+    (c : Core) (u : ℕ) (r : Register) → S.agrees c u r ≡ true → inLine r ≡ true → (waits (c .state) ≡ true) × (awaited c ≡ u)
+line-waits c u r agrees line = go (c .state) refl
+  where
+    out : {A : Type 0} → S.isBlank r ≡ true → A
+    out e = absurd (blank-out r e line)
+
+    held : {A : Type 0} (n : Ticket) → S.shows r n true ≡ true → A
+    held n e = absurd (held-out r n e line)
+
+    Waits : Type 0
+    Waits = (waits (c .state) ≡ true) × (awaited c ≡ u)
+
+    at-first :
+        (b : Bool) →
+        eqb u (c .first .0) ≡ b →
+        c .state ≡ Waiting →
+        cond b (S.shows r (c .own) false) (S.isBlank r) ≡ true →
+        Waits
+    at-first true q e a = (ap waits e, simp e (sym (eqb-true u (c .first .0) q)))
+    at-first false q e a = out a
+
+    holding : (b : Bool) → cond b (S.shows r (c .own) true) (S.isBlank r) ≡ true → Waits
+    holding true a = held (c .own) a
+    holding false a = out a
+
+    at-second :
+        (b d : Bool) →
+        eqb u (c .second .0) ≡ d →
+        c .state ≡ WaitingSecond →
+        cond b (S.shows r (c .own) true) (cond d (S.shows r (c .carried) false) (S.isBlank r)) ≡ true →
+        Waits
+    at-second true d q e a = held (c .own) a
+    at-second false true q e a = (ap waits e, simp e (sym (eqb-true u (c .second .0) q)))
+    at-second false false q e a = out a
+
+    holding-both :
+        (b d : Bool) → cond b (S.shows r (c .own) true) (cond d (S.shows r (c .carried) true) (S.isBlank r)) ≡ true → Waits
+    holding-both true d a = held (c .own) a
+    holding-both false true a = held (c .carried) a
+    holding-both false false a = out a
+
+    go : (z : State) → c .state ≡ z → Waits
+    go Idle e = out (simp e at agrees)
+    go Waiting e = at-first (eqb u (c .first .0)) refl e (simp e at agrees)
+    go Holding e = holding (eqb u (c .first .0)) (simp e at agrees)
+    go WaitingSecond e = at-second (eqb u (c .first .0)) (eqb u (c .second .0)) refl e (simp e at agrees)
+    go HoldingBoth e = holding-both (eqb u (c .first .0)) (eqb u (c .second .0)) (simp e at agrees)
+    go Away e = out (simp e at agrees)
+
+pub in-line-awaits :
+    (t : Table) (u k : ℕ) →
+    Almost t →
+    u < units →
+    k < cores →
+    inLine (registerOf t u k) ≡ true →
+    (waits (coreOf t k .state) ≡ true) × (awaited (coreOf t k) ≡ u)
+in-line-awaits t u k a h l = line-waits (coreOf t k) u (registerOf t u k) (a .agrees u h k l)
+
+-- so the core of a grant waits for its unit, before settling and after
+pub settled-waiting :
+    (t : Table) →
+    Almost t →
+    (g : Grant) →
+    List·Memᴰ g (settle t .grants) →
+    (waits (coreOf (settle t .table) (g .core .0) .state) ≡ true) × (awaited (coreOf (settle t .table) (g .core .0)) ≡ g .unit .0)
+settled-waiting t a g m =
+    let d = settled-exactly t g .0 m in
+    let w = next-won (unitOf t (g .unit .0)) (g .core) (d .due .ticket) (d .due .oldest) in
+    subst (λ (l : List Core). (waits (getD l (g .core .0) idle .state) ≡ true) × (awaited (getD l (g .core .0) idle) ≡ g .unit .0))
+    (sym (settle-same t .0))
+    (in-line-awaits t (g .unit .0) (g .core .0) a (d .place) (w .2) (w .0))
+
+-- Settling where all but one or two units are calm
+
+module _ (t : Table) (u : ℕ) (h : u < units) where
+  pub settle-at-one :
+      ((v : ℕ) → v < units → v ≢ u → Calm (unitOf t v)) → settle t .grants ≡ won u (winner (unitOf t u))
+  settle-at-one calm = ap (λ (z : Settling). z .grants) (settle-one t u h calm) ∙ ap (won u) (settleAt-winner t u)
+
+  pub settle-at-two :
+      (w : ℕ) →
+      u < w →
+      w < units →
+      ((v : ℕ) → v < units → v ≢ u → v ≢ w → Calm (unitOf t v)) →
+      settle t .grants ≡ won u (winner (unitOf t u)) ++ won w (winner (unitOf t w))
+  settle-at-two w l m calm =
+      ap (λ (z : Settling). z .grants) (settle-two t u h w l m calm) ∙
+      ap₂ (λ (a b : Best). won u a ++ won w b) (settleAt-winner t u)
+      (settleAt-winner (settleAt t u .table) w ∙ ap winner (settleAt-unit t u w (λ e. omega arith)))
+
+-- at most two grants, and two only of a unit of each class
+record Brief (t : Table) (l : List Grant) : Type 0 where
+  whole : listed (packed l) ≡ l
+  classes : (g h : Grant) → packed l ≡ Two g h → Classes t g h
+
+module _ (t : Table) where
+  brief-none : Brief t []
+  brief-none = record { whole = refl; classes = λ g h e. absurd (let z : _≡_ {A = ℕ} 0 1 = cc in omega arith) }
+
+  brief-one : (u : ℕ) (b : Best) → Brief t (won u b)
+  brief-one u Nobody = brief-none
+  brief-one u (Won k n) = record { whole = refl; classes = λ g h e. absurd (let z : _≡_ {A = ℕ} 0 1 = cc in omega arith) }
+
+  brief-two : (c : Core) → Both t c → (a b : Best) → Brief t (won (c .first .0) a ++ won (c .second .0) b)
+  brief-two c w Nobody b = brief-one (c .second .0) b
+  brief-two c w (Won k n) Nobody = brief-one (c .first .0) (Won k n)
+  brief-two c w (Won k n) (Won j m) =
+      record {
+        whole = refl;
+        classes = λ g h e.
+            let p : grant (unitNo (c .first .0)) k ≡ g = cc in
+            let q : grant (unitNo (c .second .0)) j ≡ h = cc in
+            record {
+              first = subst (λ (x : Grant). x .unit .0 < t .counts .first) p (w .first);
+              low = subst (λ (x : Grant). t .counts .first ≤ x .unit .0) q (w .low);
+              high = subst (λ (x : Grant). x .unit .0 < unitCount t) q (w .high);
+            };
+      }
+
+-- The steps
+
+-- what a step is allowed by, and its table before settling
+abbrev pub verdict : Table → Step → Verdict
+verdict t (R k u) = mayRequest t k u
+verdict t (N k u) = mayNest t k u
+verdict t (P k) = mayPoll t k
+verdict t (I k) = mayInterrupt t k
+verdict t (C k) = mayComeBack t k
+verdict t (L k) = mayRelease t k
+
+abbrev pub pollMoves : Table → ℕ → Table
+pollMoves t k =
+    let c = coreOf t k in
+    cond (registerOf t (awaited c) k .flag) (grantedMoves t k) (cond (twoStage (c .state)) (carrying t k (inherited t c)) t)
+
+abbrev pub moves : Table → Step → Table
+moves t (R k u) = requestMoves t (k .0) u
+moves t (N k u) = nestMoves t (k .0) u
+moves t (P k) = pollMoves t (k .0)
+moves t (I k) = interruptMoves t (k .0)
+moves t (C k) = backMoves t (k .0)
+moves t (L k) = releaseMoves t (k .0)
+
+-- a step's end, from the table m before settling
+pub record Ends (t m : Table) (x : Stepped) : Type 0 where
+  pub table : x .table ≡ settle m .table
+  pub grants : x .grants ≡ packed (settle m .grants)
+  pub almost : Almost m
+  brief : Brief t (settle m .grants)
+
+module _ (t : Table) (shaped : Shaped t) (s : sound t ≡ true) where
+  p : Sound t
+  p = parts t s
+
+  -- a core that enters a unit touches that unit
+  module _ (t' : Table) (u k : ℕ) (n : Ticket) (c : Core) (calm : CalmTable t') (h : u < units) where
+    abbrev entering : Table
+    entering = withCore (withRegister t' u k (standing n)) k c
+
+    pub enter-grants : settle entering .grants ≡ won u (winner (unitOf entering u))
+    enter-grants = settle-at-one entering u h (calm-elsewhere t' u k (standing n) calm)
+
+    enter-brief : Brief t (settle entering .grants)
+    enter-brief = subst (Brief t) (sym enter-grants) (brief-one t u (winner (unitOf entering u)))
+
+  -- a core that gives up every register touches the one or two units where it stood
+  module _ (k : ℕ) (c : Core) (i : (k < cores) × (stands (coreOf t k .state) ≡ true)) where
+    abbrev was : Core
+    was = coreOf t k
+
+    abbrev freeing : Table
+    freeing = withCore (giveUp t k) k c
+
+    pub free-grants-one : twoStage (was .state) ≡ false → settle freeing .grants ≡ won (was .first .0) (winner (unitOf freeing (was .first .0)))
+    free-grants-one one =
+        settle-at-one freeing (was .first .0) (first-unit t k (i .0) s (i .1))
+        (λ v l d. subst (λ (y : Table). Calm (unitOf y v)) (sym (clears-one t k (i .0) s (i .1) one)) (one-calm t k (i .0) s (i .1) v l d))
+
+    pub free-grants-two :
+        twoStage (was .state) ≡ true →
+        settle freeing .grants ≡
+        won (was .first .0) (winner (unitOf freeing (was .first .0))) ++
+        won (was .second .0) (winner (unitOf freeing (was .second .0)))
+    free-grants-two two =
+        let b = second-unit t k (i .0) s (i .1) two in
+        settle-at-two freeing (was .first .0) (first-unit t k (i .0) s (i .1)) (was .second .0) (b .0) (b .1)
+        (λ v l d d'.
+        subst (λ (y : Table). Calm (unitOf y v)) (sym (clears-two t k (i .0) s (i .1) two)) (two-calm t k (i .0) s (i .1) v l d d'))
+
+    free-brief : Brief t (settle freeing .grants)
+    free-brief = go (twoStage (was .state)) refl
+      where
+        go : (b : Bool) → twoStage (was .state) ≡ b → Brief t (settle freeing .grants)
+        go true two =
+            let live = two-stage (was .state) two .live in
+            subst (Brief t) (sym (free-grants-two two))
+            (brief-two t was (names-two t was (simp (live, two) at (p .core k (i .0) .named)))
+            (winner (unitOf freeing (was .first .0)))
+            (winner (unitOf freeing (was .second .0))))
+        go false one =
+            subst (Brief t) (sym (free-grants-one one)) (brief-one t (was .first .0) (winner (unitOf freeing (was .first .0))))
+
+  -- a poll touches no unit that settles
+  module _ (k : CoreNo) (may : mayPoll t k ≡ Allowed) where
+    abbrev c : Core
+    c = coreOf t (k .0)
+
+    poll-calm : CalmTable (pollMoves t (k .0))
+    poll-calm = go (registerOf t (awaited c) (k .0) .flag) refl (twoStage (c .state)) refl
+      where
+        go :
+            (b : Bool) →
+            registerOf t (awaited c) (k .0) .flag ≡ b →
+            (two : Bool) →
+            twoStage (c .state) ≡ two →
+            CalmTable (cond b (grantedMoves t (k .0)) (cond two (carrying t (k .0) (inherited t c)) t))
+        go true f two e = sound-calm t p
+        go false f true e =
+            let i = poll-in t k s may in
+            carrying-calm t (k .0) (i .0) s (i .1) e (awaited-second t (k .0) e f) (inherited t c)
+        go false f false e = sound-calm t p
+
+    pub poll-grants : settle (pollMoves t (k .0)) .grants ≡ []
+    poll-grants = ap (λ (z : Settling). z .grants) (settle-none (pollMoves t (k .0)) poll-calm)
+
+    poll-ends : Ends t (pollMoves t (k .0)) (polled t (k .0))
+    poll-ends =
+        go (registerOf t (awaited c) (k .0) .flag) refl (twoStage (c .state)) refl
+        (subst (Brief t) (sym poll-grants) (brief-none t))
+      where
+        go :
+            (b : Bool) →
+            registerOf t (awaited c) (k .0) .flag ≡ b →
+            (two : Bool) →
+            twoStage (c .state) ≡ two →
+            Brief t (settle (cond b (grantedMoves t (k .0)) (cond two (carrying t (k .0) (inherited t c)) t)) .grants) →
+            Ends t
+            (cond b (grantedMoves t (k .0)) (cond two (carrying t (k .0) (inherited t c)) t))
+            (cond b (granted t (k .0))
+            (cond two (settled (carrying t (k .0) (inherited t c)) NotYet (inherited t c)) (settled t NotYet (c .carried))))
+        go true f two e brief = record { table = refl; grants = refl; almost = almost-granted t k shaped p may f; brief = brief }
+        go false f true e brief =
+            record { table = refl; grants = refl; almost = almost-carrying t k shaped p may e next-won; brief = brief }
+        go false f false e brief = record { table = refl; grants = refl; almost = sound-almost t p; brief = brief }
+
+  allowed : {m : Table} (v : Verdict) (d : Stepped) → v ≡ Allowed → Ends t m d → Ends t m (answered t v d)
+  allowed {m} v d e x = subst (λ (w : Verdict). Ends t m (answered t w d)) (sym e) x
+
+  pub ends : (step : Step) → verdict t step ≡ Allowed → Ends t (moves t step) (onSound t step)
+  unfolding onSound
+  ends (R k u) may =
+      allowed (mayRequest t k u) (requested t (k .0) u) may
+      (record {
+        table = refl;
+        grants = refl;
+        almost = almost-request t k u shaped p may;
+        brief =
+            enter-brief (withCounter t (ticket (after (t .counter .0)))) (u .0) (k .0) (t .counter) _ (sound-calm t p)
+            (request-in t k s u may .1);
+      })
+  ends (N k u) may =
+      allowed (mayNest t k u) (nested t (k .0) u) may
+      (record {
+        table = refl;
+        grants = refl;
+        almost = almost-nest t k u shaped p may;
+        brief = enter-brief t (u .0) (k .0) _ _ (sound-calm t p) (nest-in t k s u may .1);
+      })
+  ends (P k) may = allowed (mayPoll t k) (polled t (k .0)) may (poll-ends k may)
+  ends (I k) may =
+      allowed (mayInterrupt t k) (interrupted t (k .0)) may
+      (record {
+        table = refl;
+        grants = refl;
+        almost = almost-interrupt t k shaped p may;
+        brief = free-brief (k .0) _ (interrupt-in t k s may);
+      })
+  ends (C k) may =
+      allowed (mayComeBack t k) (cameBack t (k .0)) may
+      (record {
+        table = refl;
+        grants = refl;
+        almost = almost-come-back t k shaped p may;
+        brief = enter-brief t _ (k .0) _ _ (sound-calm t p) (come-back-in t k s may .1);
+      })
+  ends (L k) may =
+      allowed (mayRelease t k) (released t (k .0)) may
+      (record {
+        table = refl;
+        grants = refl;
+        almost = almost-release t k shaped p may;
+        brief = free-brief (k .0) _ (release-in t k s may);
+      })
+
+-- a refused step grants nothing
+pub refused : (t : Table) (step : Step) (a : Answer) → verdict t step ≡ Refused a → onSound t step ≡ refusal t a
+unfolding onSound
+refused t (R k u) a e = ap (λ (v : Verdict). answered t v (requested t (k .0) u)) e
+refused t (N k u) a e = ap (λ (v : Verdict). answered t v (nested t (k .0) u)) e
+refused t (P k) a e = ap (λ (v : Verdict). answered t v (polled t (k .0))) e
+refused t (I k) a e = ap (λ (v : Verdict). answered t v (interrupted t (k .0))) e
+refused t (C k) a e = ap (λ (v : Verdict). answered t v (cameBack t (k .0))) e
+refused t (L k) a e = ap (λ (v : Verdict). answered t v (released t (k .0))) e
+
+module _ (t : Table) (shaped : Shaped t) (s : sound t ≡ true) (step : Step) where
+  -- an accepted step's grants are all of those that settling gives
+  module _ (may : verdict t step ≡ Allowed) where
+    pub settle-few : listed (packed (settle (moves t step) .grants)) ≡ settle (moves t step) .grants
+    settle-few = ends t shaped s step may .brief .whole
+
+    pub grants-listed : listed (onSound t step .grants) ≡ settle (moves t step) .grants
+    grants-listed = ap listed (ends t shaped s step may .grants) ∙ settle-few
+
+    -- so they are those due before settling
+    pub grants-exactly :
+        (g : Grant) →
+        (List·Memᴰ g (listed (onSound t step .grants)) → DueIn (moves t step) g) ×
+        (DueIn (moves t step) g → List·Memᴰ g (listed (onSound t step .grants)))
+    grants-exactly g = rw grants-listed (settled-exactly (moves t step) g)
+
+  -- by what the step is judged
+  judged : {A : Type 0} → (verdict t step ≡ Allowed → A) → ((a : Answer) → verdict t step ≡ Refused a → A) → A
+  judged {A} accepted turned = go (verdict t step) refl
+    where
+      go : (v : Verdict) → verdict t step ≡ v → A
+      go Allowed e = accepted e
+      go (Refused a) e = turned a e
+
+  pub granted-waiting :
+      (g : Grant) →
+      List·Memᴰ g (listed (onSound t step .grants)) →
+      (waits (coreOf (onSound t step .table) (g .core .0) .state) ≡ true) ×
+      (awaited (coreOf (onSound t step .table) (g .core .0)) ≡ g .unit .0)
+  granted-waiting g m =
+      judged
+      (λ may.
+      let e = ends t shaped s step may in
+      rw (e .table) (settled-waiting (moves t step) (e .almost) g (rw (grants-listed may) at m)))
+      (λ a e. absurd (List·Memᴰ·not-nil (rw (refused t step a e) at m)))
+
+  pub grants-rising : Rising (listed (onSound t step .grants))
+  unfolding Rising
+  grants-rising = judged (λ may. rw (grants-listed may) (settled-rising (moves t step))) (λ a e. rw (refused t step a e) tt)
+
+  module _ (g h : Grant) (two : onSound t step .grants ≡ Two g h) where
+    pub two-classes : Classes t g h
+    two-classes =
+        judged (λ may. let e = ends t shaped s step may in e .brief .classes g h (sym (e .grants) ∙ two))
+        (λ a e. absurd (let n = ap (λ (x : Stepped). x .grants) (refused t step a e) in let z : _≡_ {A = ℕ} 0 1 = cc in omega arith))
+
+    pub rising : g .unit .0 < h .unit .0
+    rising = omega (arith, two-classes)

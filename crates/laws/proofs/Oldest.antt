@@ -1,0 +1,262 @@
+-- What picking promises on a unit of a table that is sound, but perhaps for flags to be set. Every ticket shown is the own ticket of
+-- a live core, of the one that shows it or of one that lends it; so the tickets lie in the window behind the counter, and no two
+-- cores at a unit show the same one, as a core lends to one core only, and does not stand where its ticket is borrowed.
+use Prim.Native.Nat.{ℕ, _<_}
+use mathlib.Core.Bool.{Bool, true, false, cond, _&&_, not}
+use mathlib.Core.Logic.{_⊎_, inl, inr, ⊎-elim, _≢_}
+use mathlib.Core.Path.{_≡_, refl, sym, _∙_}
+use native.Mathlib.Omega.{arith}
+use lib.Dec.{eqb}
+use borrow.Author.Tests.{eqb-true}
+use Rattle.ticket.specs.Order.{circle, older, Window}
+use Rattle.ticket.specs.declared.kinds.CoreNo.{CoreNo}
+use Rattle.ticket.specs.declared.kinds.Ticket.{Ticket}
+use Rattle.block.specs.Fold.{some}
+use Rattle.block.specs.State.{isIdle, stands, holdsFirst, holdsBoth, twoStage, unserved}
+use Rattle.block.specs.Table.{cores, units, coreOf, unitOf, registerOf}
+use Rattle.block.specs.Settle.{inLine, next}
+use Rattle.block.specs.Sound as S
+use Rattle.block.specs.Parts.{Sound}
+use Rattle.block.specs.declared.table.Core.{Core}
+use Rattle.block.specs.declared.table.Register.{Register}
+use Rattle.block.specs.declared.table.State.{State}
+use Rattle.block.specs.declared.table.State.the-variants.{Idle, Waiting, Holding, WaitingSecond, HoldingBoth, Away}
+use Rattle.block.specs.declared.table.Table.{Table}
+use Rattle.block.specs.declared.settle.Best.the-variants.{Nobody, Core as Won}
+use Rattle.block.proofs.Bools.{and-left, and-right, or-cases, not-true-false, clash}
+use Rattle.block.proofs.Folds.{some-at, count-unique}
+use Rattle.block.proofs.Access.{same-or-not}
+use Rattle.laws.proofs.Almost.{Almost}
+use Rattle.block.proofs.Picking.{next-won, nobody-next, next-nobody, next-oldest}
+use Rattle.laws.proofs.Columns.{Lends, lent, differ-apart, sound-almost}
+use Rattle.laws.proofs.Kept.{names-two, recent-window, two-stage, first-flag, first-place, unserved-live}
+
+-- own tickets fit sixteen bits, as those of every table that a program holds
+pub record Fitting (t : Table) : Type 0 where
+  pub own : (k : ℕ) → k < cores → coreOf t k .own .0 < circle
+
+stands-live : (z : State) → stands z ≡ true → isIdle z ≡ false
+stands-live Idle e = absurd (clash e refl)
+stands-live Waiting e = refl
+stands-live Holding e = refl
+stands-live WaitingSecond e = refl
+stands-live HoldingBoth e = refl
+stands-live Away e = refl
+
+unserved-single : (z : State) → unserved z ≡ true → twoStage z ≡ false
+unserved-single Idle e = refl
+unserved-single Waiting e = refl
+unserved-single Holding e = refl
+unserved-single WaitingSecond e = absurd (clash e refl)
+unserved-single HoldingBoth e = absurd (clash e refl)
+unserved-single Away e = refl
+
+-- a valid register stands at the core's first unit with the own ticket, or at its second with the carried one
+module _ (c : Core) (u : ℕ) (r : Register) where
+  record AtFirst : Type 0 where
+    stands : stands (c .state) ≡ true
+    unit : u ≡ c .first .0
+    ticket : r .ticket .0 ≡ c .own .0
+
+  record AtSecond : Type 0 where
+    two : twoStage (c .state) ≡ true
+    unit : u ≡ c .second .0
+    ticket : r .ticket .0 ≡ c .carried .0
+
+  shown-ticket : (n : Ticket) (held : Bool) → S.shows r n held ≡ true → r .ticket .0 ≡ n .0
+  shown-ticket n held h =
+      eqb-true (r .ticket .0) (n .0) (and-right (r .valid) _ (and-left (r .valid && eqb (r .ticket .0) (n .0)) _ h))
+
+  shown : S.agrees c u r ≡ true → r .valid ≡ true → AtFirst ⊎ AtSecond
+  shown agrees valid = go (stands (c .state) && eqb u (c .first .0)) (twoStage (c .state) && eqb u (c .second .0)) refl refl agrees
+    where
+      go :
+          (p q : Bool) →
+          (stands (c .state) && eqb u (c .first .0)) ≡ p →
+          (twoStage (c .state) && eqb u (c .second .0)) ≡ q →
+          cond p (S.shows r (c .own) (holdsFirst (c .state))) (cond q (S.shows r (c .carried) (holdsBoth (c .state))) (S.isBlank r)) ≡ true →
+          AtFirst ⊎ AtSecond
+      go true q d e h =
+          inl
+          (record {
+            stands = and-left (stands (c .state)) _ d;
+            unit = eqb-true u (c .first .0) (and-right (stands (c .state)) _ d);
+            ticket = shown-ticket (c .own) (holdsFirst (c .state)) h;
+          })
+      go false true d e h =
+          inr
+          (record {
+            two = and-left (twoStage (c .state)) _ e;
+            unit = eqb-true u (c .second .0) (and-right (twoStage (c .state)) _ e);
+            ticket = shown-ticket (c .carried) (holdsBoth (c .state)) h;
+          })
+      go false false d e h =
+          let empty = and-right (eqb (r .ticket .0) 0) _ (and-left (eqb (r .ticket .0) 0 && not (r .valid)) _ h) in
+          absurd (clash valid (not-true-false (r .valid) empty))
+
+-- core k stands at u, its second unit, with a ticket that core j lends
+pub record Borrows (t : Table) (u k j : ℕ) : Type 0 where
+  pub two : twoStage (coreOf t k .state) ≡ true
+  pub second : coreOf t k .second .0 ≡ u
+  pub lends : Lends (coreOf t k) (coreOf t j)
+
+-- whose own ticket core k's register at u shows
+pub record Owner (t : Table) (u k : ℕ) : Type 0 where
+  pub core : ℕ
+  pub small : core < cores
+  pub live : isIdle (coreOf t core .state) ≡ false
+  pub own : coreOf t core .own .0 ≡ registerOf t u k .ticket .0
+  pub how : (core ≡ k) ⊎ Borrows t u k core
+
+module _ (t : Table) (a : Almost t) (u : ℕ) (place : u < units) where
+  stood :
+      (k : ℕ) →
+      k < cores →
+      registerOf t u k .valid ≡ true →
+      AtFirst (coreOf t k) u (registerOf t u k) ⊎ AtSecond (coreOf t k) u (registerOf t u k)
+  stood k h v = shown (coreOf t k) u (registerOf t u k) (a .agrees u place k h) v
+
+  module _ (k : ℕ) (h : k < cores) where
+    abbrev c : Core
+    c = coreOf t k
+
+    owner-first : AtFirst c u (registerOf t u k) → Owner t u k
+    owner-first f =
+        record { core = k; small = h; live = stands-live (c .state) (f .stands); own = sym (f .ticket); how = inl refl }
+
+    owner-second : AtSecond c u (registerOf t u k) → Owner t u k
+    owner-second f = ⊎-elim mine lender (or-cases (eqb (c .carried .0) (c .own .0)) _ (simp (f .two) at (a .core k h .carries)))
+      where
+        mine : eqb (c .carried .0) (c .own .0) ≡ true → Owner t u k
+        mine e =
+            record {
+              core = k;
+              small = h;
+              live = two-stage (c .state) (f .two) .live;
+              own = sym (f .ticket ∙ eqb-true (c .carried .0) (c .own .0) e);
+              how = inl refl;
+            }
+
+        lender : S.inherits t c ≡ true → Owner t u k
+        lender e =
+            let p : ℕ → Bool = λ (j : ℕ). S.lends c (coreOf t j) in
+            let j = some-at p cores (and-left (some p cores) _ e) in
+            let l = lent c (coreOf t (j .0)) (j .2) in
+            record {
+              core = j .0;
+              small = j .1;
+              live = unserved-live (coreOf t (j .0) .state) (l .unserved);
+              own = l .own ∙ sym (f .ticket);
+              how = inr (record { two = f .two; second = sym (f .unit); lends = l });
+            }
+
+    -- every ticket shown is the own ticket of a live core
+    pub owner : registerOf t u k .valid ≡ true → Owner t u k
+    owner v = ⊎-elim owner-first owner-second (stood k h v)
+
+  -- who lends does not stand where the ticket is borrowed: that is the borrower's second unit, and its own first is the borrower's first
+  lender-elsewhere : (i k : ℕ) → i < cores → k < cores → Borrows t u i k → registerOf t u k .valid ≡ true → ⊥
+  lender-elsewhere i k l h b v = ⊎-elim first second (stood k h v)
+    where
+      first : AtFirst (coreOf t k) u (registerOf t u k) → ⊥
+      first f =
+          let live = two-stage (coreOf t i .state) (b .two) .live in
+          let names = names-two t (coreOf t i) (simp (live, b .two) at (a .core i l .named)) in
+          omega (arith, f .unit, b .lends .first, b .second)
+
+      second : AtSecond (coreOf t k) u (registerOf t u k) → ⊥
+      second f = clash (f .two) (unserved-single (coreOf t k .state) (b .lends .unserved))
+
+  -- a core lends to one core only: to the holder of its first unit
+  borrower-only : (i k j : ℕ) → i < cores → k < cores → Borrows t u i j → Borrows t u k j → i ≡ k
+  borrower-only i k j l h b d =
+      let c = coreOf t k in
+      let same : coreOf t i .first .0 ≡ c .first .0 = sym (b .lends .first) ∙ d .lends .first in
+      let there = first-place t a k h (two-stage (c .state) (d .two) .live) in
+      count-unique (λ (m : ℕ). registerOf t (c .first .0) m .flag) cores i k (a .few (c .first .0) there) l h
+      (rw same at (first-flag t a i l (b .two)))
+      (first-flag t a k h (d .two))
+
+  -- two cores show different tickets
+  pub shown-differ :
+      (i k : ℕ) →
+      i < cores →
+      k < cores →
+      i ≢ k →
+      registerOf t u i .valid ≡ true →
+      registerOf t u k .valid ≡ true →
+      registerOf t u i .ticket .0 ≢ registerOf t u k .ticket .0
+  shown-differ i k l h d v w e = go (owner i l v) (owner k h w)
+    where
+      met : (o : Owner t u i) (p : Owner t u k) → (o .core ≡ p .core) → (o .core ≡ i) ⊎ Borrows t u i (o .core) → (p .core ≡ k) ⊎ Borrows t u k (p .core) → ⊥
+      met o p q (inl x) (inl y) = d (sym x ∙ q ∙ y)
+      met o p q (inl x) (inr y) = lender-elsewhere k i h l (rw (sym q ∙ x) at y) v
+      met o p q (inr x) (inl y) = lender-elsewhere i k l h (rw (q ∙ y) at x) w
+      met o p q (inr x) (inr y) = d (borrower-only i k (p .core) l h (rw q at x) y)
+
+      go : Owner t u i → Owner t u k → ⊥
+      go o p = ⊎-elim (λ q. met o p q (o .how) (p .how)) apart (same-or-not (o .core) (p .core))
+        where
+          apart : o .core ≢ p .core → ⊥
+          apart q =
+              differ-apart t (o .core) (p .core) q (a .core (o .core) (o .small) .differ (p .core) (p .small)) (o .live) (p .live)
+              (o .own ∙ e ∙ sym (p .own))
+
+  -- every ticket shown lies in the window behind the counter
+  pub shown-recent :
+      Fitting t →
+      (k : ℕ) →
+      k < cores →
+      registerOf t u k .valid ≡ true →
+      (registerOf t u k .ticket .0 < circle) × Window (t .counter .0) (registerOf t u k .ticket .0)
+  shown-recent f k h v =
+      let o = owner k h v in (
+        rw (o .own) at (f .own (o .core) (o .small)),
+        rw (o .own) at (recent-window t (coreOf t (o .core)) (o .live) (a .core (o .core) (o .small) .recent)),
+      )
+
+-- nobody is next exactly if nobody is in line: this holds of every table
+pub oldest-nobody :
+    (t : Table) (u : ℕ) →
+    (next (unitOf t u) ≡ Nobody → (k : ℕ) → k < cores → inLine (registerOf t u k) ≡ false) ×
+    (((k : ℕ) → k < cores → inLine (registerOf t u k) ≡ false) → next (unitOf t u) ≡ Nobody)
+oldest-nobody t u = (nobody-next (unitOf t u), next-nobody (unitOf t u))
+
+-- core k is in line at u with the ticket n, which is older than all others in line
+abbrev pub Oldest : Table → ℕ → CoreNo → Ticket → Type 0
+Oldest t u k n =
+    (k .0 < cores) ×
+    (inLine (registerOf t u (k .0)) ≡ true) ×
+    (registerOf t u (k .0) .ticket ≡ n) ×
+    ((j : ℕ) → j < cores → j ≢ k .0 → inLine (registerOf t u j) ≡ true → older (n .0) (registerOf t u j .ticket .0) ≡ true)
+
+-- whoever is next is so
+pub oldest-won :
+    (t : Table) →
+    Almost t →
+    Fitting t →
+    (u : ℕ) →
+    u < units →
+    (k : CoreNo) (n : Ticket) →
+    next (unitOf t u) ≡ Won k n →
+    Oldest t u k n
+oldest-won t a f u place k n e =
+    let w = next-won (unitOf t u) k n e in
+    let valid : (j : ℕ) → inLine (registerOf t u j) ≡ true → registerOf t u j .valid ≡ true = λ j l. and-left (registerOf t u j .valid) _ l in (
+      w .2,
+      w .0,
+      w .1,
+      next-oldest (unitOf t u) (t .counter .0) (λ j h l. shown-recent t a u place f j h (valid j l))
+          (λ i j h h' d l l'. shown-differ t a u place i j h h' d (valid i l) (valid j l')) k n e,
+    )
+
+pub oldest-won-sound :
+    (t : Table) →
+    Sound t →
+    Fitting t →
+    (u : ℕ) →
+    u < units →
+    (k : CoreNo) (n : Ticket) →
+    next (unitOf t u) ≡ Won k n →
+    Oldest t u k n
+oldest-won-sound t s = oldest-won t (sound-almost t s)

@@ -1,0 +1,265 @@
+-- Settling a table that is almost sound. One unit that settles either stays as it is or, having no flag, has the flag of one core in
+-- line set; so the unit ends with one flag if a register is valid, and nothing else of what makes the table sound changes.
+use Prim.Native.Nat.{ℕ, _+_, _≤_, _<_}
+use mathlib.Core.Bool.{Bool, true, false, cond, _&&_, _||_, not}
+use mathlib.Core.List.{[]}
+use mathlib.Core.Logic.{_⊎_, inl, inr, _≢_}
+use mathlib.Core.Path.{_≡_, refl, sym, _∙_, ap, subst}
+use native.Mathlib.Nat.{le-antisymm, not-suc-le-zero}
+use native.Mathlib.Omega.{arith}
+use lib.Dec.{eqb}
+use borrow.Author.Tests.{eqb-true, eqb-false, eq-eqb}
+use Rattle.ticket.specs.declared.kinds.Ticket.{Ticket}
+use Rattle.block.specs.Fold.{some, count, one}
+use Rattle.block.specs.State.{stands, twoStage, holdsFirst, holdsBoth}
+use Rattle.block.specs.Table.{cores, units, flagged, coreOf, unitOf, registerIn, registerOf, withRegister}
+use Rattle.block.specs.Settle.{Settling, flags, inLine, next, give, settleAt, settleNext, settle}
+use Rattle.block.specs.Sound as S
+use Rattle.block.specs.Parts.{Sound}
+use Rattle.block.specs.Touched.{Calm}
+use Rattle.block.specs.declared.table.Register.{Register}
+use Rattle.block.specs.declared.table.LockUnit.{LockUnit}
+use Rattle.block.specs.declared.table.Core.{Core}
+use Rattle.block.specs.declared.table.Table.{Table}
+use Rattle.block.specs.declared.settle.Best.{Best}
+use Rattle.block.specs.declared.settle.Best.the-variants.{Nobody, Core as Won}
+use Rattle.block.proofs.Bools.{and-left, and-right, and-both, not-true-false, flipped, clash}
+use Rattle.block.proofs.Folds.{some-at, at-some, none-some, some-none, count-change, count-some, none-count}
+use Rattle.block.proofs.Access.{Shaped, same-or-not, unit-other, register-same, register-core, register-unit, shaped-register}
+use Rattle.laws.proofs.Almost.{Almost}
+use Rattle.block.proofs.Along.{to-last, along}
+use Rattle.block.proofs.Picking.{nobody-next}
+use Rattle.block.proofs.Touching.{by-settling, settleAt-unit}
+
+-- A register that gets its flag
+
+in-line : (r : Register) → inLine r ≡ true → (r .valid ≡ true) × (r .flag ≡ false)
+in-line r e = (and-left (r .valid) (not (r .flag)) e, not-true-false (r .flag) (and-right (r .valid) (not (r .flag)) e))
+
+blank-clear : (r : Register) → S.isBlank r ≡ true → (r .valid ≡ false) × (r .flag ≡ false)
+blank-clear r e =
+    let a = eqb (r .ticket .0) 0 in
+    let b = not (r .valid) in (
+      not-true-false (r .valid) (and-right a b (and-left (a && b) (not (r .flag)) e)),
+      not-true-false (r .flag) (and-right (a && b) (not (r .flag)) e),
+    )
+
+-- to agree with a core is to show a ticket or to be blank
+agreement :
+    (c : Core) (u : ℕ) (M : (Register → Bool) → Type 0) →
+    ((n : Ticket) (held : Bool) → M (λ (r : Register). S.shows r n held)) →
+    M S.isBlank →
+    M (S.agrees c u)
+agreement c u M shown blank = go (stands (c .state) && eqb u (c .first .0)) (twoStage (c .state) && eqb u (c .second .0))
+  where
+    go :
+        (a b : Bool) →
+        M (λ (r : Register).
+        cond a (S.shows r (c .own) (holdsFirst (c .state))) (cond b (S.shows r (c .carried) (holdsBoth (c .state))) (S.isBlank r)))
+    go true b = shown (c .own) (holdsFirst (c .state))
+    go false true = shown (c .carried) (holdsBoth (c .state))
+    go false false = blank
+
+module _ (c : Core) (u : ℕ) (r : Register) where
+  flagged-agrees : r .valid ≡ true → S.agrees c u r ≡ true → S.agrees c u (flagged r) ≡ true
+  flagged-agrees v =
+      agreement c u (λ (p : Register → Bool). p r ≡ true → p (flagged r) ≡ true)
+      (λ n held e. and-both (and-left (r .valid && eqb (r .ticket .0) (n .0)) (r .flag || not held) e) refl)
+      (λ e. absurd (clash v (blank-clear r e .0)))
+
+  flag-valid : r .flag ≡ true → S.agrees c u r ≡ true → r .valid ≡ true
+  flag-valid f =
+      agreement c u (λ (p : Register → Bool). p r ≡ true → r .valid ≡ true)
+      (λ n held e.
+      and-left (r .valid) (eqb (r .ticket .0) (n .0)) (and-left (r .valid && eqb (r .ticket .0) (n .0)) (r .flag || not held) e))
+      (λ e. absurd (clash f (blank-clear r e .1)))
+
+-- One unit
+
+one-flag : (x : LockUnit) (b : Bool) → S.anyValid x ≡ b → flags x ≡ one b → S.oneFlag x ≡ true
+one-flag x b v f = eq-eqb (flags x) (one (S.anyValid x)) (f ∙ ap one (sym v))
+
+-- what a register keeps
+pub record Kept (r z : Register) : Type 0 where
+  pub ticket : z .ticket ≡ r .ticket
+  pub valid : z .valid ≡ r .valid
+  pub flag : r .flag ≡ true → z .flag ≡ true
+
+kept : (r : Register) → Kept r r
+kept r = record { ticket = refl; valid = refl; flag = λ e. e }
+
+-- the flag of core k in line at unit u is set, where none was
+module _ (t : Table) (u k : ℕ) (s : Shaped t) (h : u < units) (l : k < cores) (e : inLine (registerOf t u k) ≡ true) (none : flags (unitOf t u) ≡ 0) where
+  abbrev r : Register
+  r = registerOf t u k
+
+  abbrev given : Table
+  given = withRegister t u k (flagged r)
+
+  -- reading any register: the flagged one, or what stood there
+  reading : (P : ℕ → ℕ → Register → Type 0) → P u k (flagged r) → ((v j : ℕ) → P v j (registerOf t v j)) → (v j : ℕ) → P v j (registerOf given v j)
+  reading P new old v j = go (same-or-not v u) (same-or-not j k)
+    where
+      at-u : (j ≡ k) ⊎ (j ≢ k) → P u j (registerOf given u j)
+      at-u (inl q) = subst (λ (i : ℕ). P u i (registerOf given u i)) (sym q) (subst (P u k) (sym (register-same t u k (flagged r) s h l)) new)
+      at-u (inr d) = subst (P u j) (sym (register-core t u k (flagged r) j s h d)) (old u j)
+
+      go : (v ≡ u) ⊎ (v ≢ u) → (j ≡ k) ⊎ (j ≢ k) → P v j (registerOf given v j)
+      go (inl q) c = subst (λ (w : ℕ). P w j (registerOf given w j)) (sym q) (at-u c)
+      go (inr d) c = subst (P v j) (sym (register-unit t u k (flagged r) v j d)) (old v j)
+
+  given-keeps : (v j : ℕ) → Kept (registerOf t v j) (registerOf given v j)
+  given-keeps = reading (λ v j z. Kept (registerOf t v j) z) (record { ticket = refl; valid = refl; flag = λ f. refl }) (λ v j. kept (registerOf t v j))
+
+  given-flags : flags (unitOf given u) ≡ 1
+  given-flags =
+      let p : ℕ → Bool = λ (j : ℕ). registerOf t u j .flag in
+      let q : ℕ → Bool = λ (j : ℕ). registerOf given u j .flag in
+      let c : count p cores + one (q k) ≡ count q cores + one (p k) =
+      count-change p q cores k l (λ j d. ap (λ (z : Register). z .flag) (sym (register-core t u k (flagged r) j s h d))) in
+      let a : one (p k) ≡ 0 = ap one (in-line r e .1) in
+      let b : one (q k) ≡ 1 = ap (λ (z : Register). one (z .flag)) (register-same t u k (flagged r) s h l) in
+      omega arith
+
+  given-one : S.oneFlag (unitOf given u) ≡ true
+  given-one =
+      one-flag (unitOf given u) true
+      (at-some (λ (j : ℕ). registerOf given u j .valid) cores k l (given-keeps u k .valid ∙ in-line r e .0))
+      given-flags
+
+  given-almost : Almost t → Almost given
+  given-almost a =
+      record {
+        counts = a .counts;
+        core = λ j m.
+            let c = a .core j m in
+            record {
+              within = c .within;
+              idleBlank = c .idleBlank;
+              named = c .named;
+              recent = c .recent;
+              differ = c .differ;
+              carries = c .carries;
+            };
+        agrees = λ v m j i.
+            reading (λ v j z. v < units → j < cores → S.agrees (coreOf t j) v z ≡ true)
+            (λ m i. flagged-agrees (coreOf t k) u r (in-line r e .0) (a .agrees u m k i))
+            (λ v j m i. a .agrees v m j i) v j m i;
+        few = λ v m. few v m (same-or-not v u);
+      }
+    where
+      few : (v : ℕ) → v < units → (v ≡ u) ⊎ (v ≢ u) → flags (unitOf given v) ≤ 1
+      few v m (inl q) = subst (λ (w : ℕ). flags (unitOf given w) ≤ 1) (sym q) (omega (arith, given-flags))
+      few v m (inr d) = subst (λ (x : LockUnit). flags x ≤ 1) (sym (unit-other t u v _ d)) (a .few v m)
+
+-- a valid register with its flag clear is in line
+not-in-line : (r : Register) → r .flag ≡ false → inLine r ≡ false → r .valid ≡ false
+not-in-line r clear e = go (r .valid) e
+  where
+    go : (v : Bool) → (v && not (r .flag)) ≡ false → v ≡ false
+    go true q = sym (flipped clear) ∙ q
+    go false q = refl
+
+-- a calm unit has its one flag already, or no valid register
+calm-one : (t : Table) (u : ℕ) → Almost t → u < units → Calm (unitOf t u) → S.oneFlag (unitOf t u) ≡ true
+calm-one t u a h calm = go (some flag cores) refl
+  where
+    x : LockUnit
+    x = unitOf t u
+
+    flag : ℕ → Bool
+    flag k = registerIn x k .flag
+
+    valid : ℕ → Bool
+    valid k = registerIn x k .valid
+
+    go : (b : Bool) → some flag cores ≡ b → S.oneFlag x ≡ true
+    go true e =
+        let w = some-at flag cores e in
+        let k = w .0 in
+        let v = flag-valid (coreOf t k) u (registerIn x k) (w .2) (a .agrees u h k (w .1)) in
+        one-flag x true (at-some valid cores k (w .1) v) (le-antisymm (a .few u h) (count-some flag cores k (w .1) (w .2)))
+    go false e =
+        let clear = some-none flag cores e in
+        let none = none-count flag cores clear in
+        one-flag x false
+        (none-some valid cores (λ k l. not-in-line (registerIn x k) (clear k l) (nobody-next x (calm none) k l)))
+        none
+
+module _ (t : Table) (u : ℕ) where
+  abbrev after : Table
+  after = settleAt t u .table
+
+  pub settleAt-same : (after .cores ≡ t .cores) × (after .counts ≡ t .counts) × (after .counter ≡ t .counter)
+  settleAt-same =
+      by-settling t u (λ z. (z .cores ≡ t .cores) × (z .counts ≡ t .counts) × (z .counter ≡ t .counter))
+      (λ calm. (refl, refl, refl))
+      (λ k l e none. (refl, refl, refl))
+
+  pub settleAt-register : (v j : ℕ) → v ≢ u → registerOf after v j ≡ registerOf t v j
+  settleAt-register v j d = ap (λ (x : LockUnit). registerIn x j) (settleAt-unit t u v d)
+
+  module _ (s : Shaped t) (h : u < units) where
+    pub settleAt-shaped : Shaped after
+    settleAt-shaped = by-settling t u Shaped (λ calm. s) (λ k l e none. shaped-register t u k _ s h)
+
+    -- at every unit, u too
+    pub settleAt-keeps : (v j : ℕ) → Kept (registerOf t v j) (registerOf after v j)
+    settleAt-keeps v j =
+        by-settling t u (λ z. Kept (registerOf t v j) (registerOf z v j)) (λ calm. kept (registerOf t v j))
+        (λ k l e none. given-keeps t u k s h l e none v j)
+
+    pub settleAt-almost : Almost t → Almost after
+    settleAt-almost a = by-settling t u Almost (λ calm. a) (λ k l e none. given-almost t u k s h l e none a)
+
+    pub settleAt-one : Almost t → S.oneFlag (unitOf after u) ≡ true
+    settleAt-one a =
+        by-settling t u (λ z. S.oneFlag (unitOf z u) ≡ true) (calm-one t u a h)
+        (λ k l e none. given-one t u k s h l e none)
+
+-- Every unit
+
+-- the units below n have settled
+record Mended (n : ℕ) (t : Table) : Type 0 where
+  shaped : Shaped t
+  almost : Almost t
+  ones : (u : ℕ) → u < n → S.oneFlag (unitOf t u) ≡ true
+
+module _ (t : Table) where
+  abbrev start : Settling
+  start = record { table = t; grants = [] }
+
+  mended : Shaped t → Almost t → Mended units (settle t .table)
+  mended s a =
+      along (λ n z. Mended n (z .table)) settleNext start
+      (record { shaped = s; almost = a; ones = λ u h. absurd (not-suc-le-zero h) })
+      units
+      (λ n h z m. record {
+        shaped = settleAt-shaped (z .table) n (m .shaped) h;
+        almost = settleAt-almost (z .table) n (m .shaped) h (m .almost);
+        ones =
+            to-last (λ u. S.oneFlag (unitOf (settleAt (z .table) n .table) u) ≡ true) n
+            (λ u l. ap S.oneFlag (settleAt-unit (z .table) n u (λ e. omega arith)) ∙ m .ones u l)
+            (settleAt-one (z .table) n (m .shaped) h (m .almost));
+      })
+
+  pub settle-shaped : Shaped t → Shaped (settle t .table)
+  settle-shaped s = along (λ n z. Shaped (z .table)) settleNext start s units (λ n h z m. settleAt-shaped (z .table) n m h)
+
+  pub settle-sound : Shaped t → Almost t → Sound (settle t .table)
+  settle-sound s a =
+      let m = mended s a in
+      record {
+        counts = m .almost .counts;
+        core = m .almost .core;
+        unit = λ u h. record { agrees = m .almost .agrees u h; oneFlag = m .ones u h };
+      }
+
+  abbrev settled : Table
+  settled = settle t .table
+
+  pub settle-same : (settled .cores ≡ t .cores) × (settled .counts ≡ t .counts) × (settled .counter ≡ t .counter)
+  settle-same =
+      along (λ n z. (z .table .cores ≡ t .cores) × (z .table .counts ≡ t .counts) × (z .table .counter ≡ t .counter))
+      settleNext start (refl, refl, refl) units
+      (λ n h z m. let q = settleAt-same (z .table) n in (q .0 ∙ m .0, q .1 ∙ m .1, q .2 ∙ m .2))

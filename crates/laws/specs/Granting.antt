@@ -1,0 +1,53 @@
+-- What is said of the grants of a step: their list, its order, their classes, and when a grant is due.
+use Prim.Native.Nat.{ℕ, _≤_, _<_}
+use mathlib.Core.Bool.{Bool, cond}
+use mathlib.Core.List.{List, [], _∷_, List·Memᴰ}
+use mathlib.Core.Path.{_≡_}
+use lib.Dec.{eqb}
+use Rattle.ticket.specs.declared.kinds.CoreNo.{CoreNo}
+use Rattle.ticket.specs.declared.kinds.Grant.{Grant}
+use Rattle.ticket.specs.declared.kinds.Ticket.{Ticket}
+use Rattle.block.specs.Fold.{some}
+use Rattle.block.specs.Table.{cores, units, registerIn, unitOf, unitCount}
+use Rattle.block.specs.Settle.{flags, inLine, next}
+use Rattle.block.specs.declared.table.LockUnit.{LockUnit}
+use Rattle.block.specs.declared.table.Table.{Table}
+use Rattle.block.specs.declared.settle.Best.{Best}
+use Rattle.block.specs.declared.settle.Best.the-variants.{Nobody, Core}
+use Rattle.block.specs.declared.answer.Grants.{Grants}
+use Rattle.block.specs.declared.answer.Grants.the-variants.{None, One, Two}
+
+abbrev pub listed : Grants → List Grant
+listed None = []
+listed (One g) = g ∷ []
+listed (Two g h) = g ∷ h ∷ []
+
+-- the units rise
+unfoldable pub Rising : List Grant → Type 0
+Rising [] = Unit {0}
+Rising (g ∷ more) = ((h : Grant) → List·Memᴰ h more → g .unit .0 < h .unit .0) × Rising more
+
+-- the first of two grants is of a first-class unit, the second of a second-class one
+pub record Classes (t : Table) (g h : Grant) : Type 0 where
+  pub first : g .unit .0 < t .counts .first
+  pub low : t .counts .first ≤ h .unit .0
+  pub high : h .unit .0 < unitCount t
+
+-- who wins a unit that settles: without a flag, its next in line
+abbrev pub winner : LockUnit → Best
+winner x = cond (eqb (flags x) 0) (next x) Nobody
+
+-- the unit has no flag set, and the core is its next in line
+pub record Due (x : LockUnit) (k : CoreNo) : Type 0 where
+  pub free : flags x ≡ 0
+  pub ticket : Ticket
+  pub oldest : next x ≡ Core k ticket
+
+-- the grant is of a unit in the table, and due there
+pub record DueIn (t : Table) (g : Grant) : Type 0 where
+  pub place : g .unit .0 < units
+  pub due : Due (unitOf t (g .unit .0)) (g .core)
+
+-- some register of the unit is in line
+abbrev pub anyInLine : LockUnit → Bool
+anyInLine x = some (λ (k : ℕ). inLine (registerIn x k)) cores
