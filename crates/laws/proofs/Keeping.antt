@@ -122,7 +122,7 @@ module _ (c : Counts) (n : Ticket) where
   unit-fresh : (u : ℕ) → u < units → unitOf (fresh c n) u ≡ emptyUnit
   unit-fresh u h = getD-replicate units u emptyUnit noUnit h
 
-  core-fresh : (k : ℕ) → k < cores → coreOf (fresh c n) k ≡ idle
+  pub core-fresh : (k : ℕ) → k < cores → coreOf (fresh c n) k ≡ idle
   core-fresh k h = getD-replicate cores k idle idle h
 
   register-fresh : (u : ℕ) → u < units → (k : ℕ) → k < cores → registerOf (fresh c n) u k ≡ blank

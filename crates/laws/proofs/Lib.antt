@@ -5,3 +5,4 @@ pub mod Kept
 pub mod Oldest
 pub mod Keeping
 pub mod Granting
+pub mod Working

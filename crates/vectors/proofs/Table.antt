@@ -1,8 +1,11 @@
 -- Every row of the table computes: antt runs the definitions on the row's numbers.
 use mathlib.Core.Path.{refl}
-use Rattle.ticket.specs.Order.{behind, topBit}
-use Rattle.vectors.specs.Table.{table, Every}
+use Rattle.ticket.specs.Order.{behind, topBit, after}
+use Rattle.block.specs.Fold.{upTo}
+use Rattle.block.specs.Sound.{coreSound, unitSound, sound}
+use Rattle.block.specs.Steps.{onSound, step}
+use Rattle.vectors.specs.Table.{table, requestAt, Every}
 
 pub every-row : Every table
-unfolding behind topBit
-every-row = (refl, (refl, (refl, (refl, (refl, (refl, (refl, tt)))))))
+unfolding behind topBit after upTo coreSound unitSound sound onSound step requestAt
+every-row = (refl, (refl, (refl, (refl, (refl, (refl, (refl, (refl, (refl, tt)))))))))

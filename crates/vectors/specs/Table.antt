@@ -1,14 +1,21 @@
 -- "Proved, as a single table: older for (65535, 0) yes, (0, 65535) no, (0, 32767) yes, (32767, 0) no, (0, 32768) yes,
--- (32768, 0) yes, (7, 7) no."
+-- (32768, 0) yes, (7, 7) no; [..] request with ticket 0 live and counter 32,767 answered 0, with counter 32,768 answered 15".
 use Prim.Native.Nat.{ℕ}
 use mathlib.Core.Bool.{Bool, true, false}
 use mathlib.Core.List.{List, [], _∷_}
 use mathlib.Core.Path.{_≡_}
+use Rattle.ticket.specs.Kinds.{ticket}
 use Rattle.ticket.specs.Order.{older}
+use Rattle.block.specs.Table.{coreNo, unitNo, withCounter}
+use Rattle.block.specs.Build.{fresh}
+use Rattle.block.specs.Answer.{numberOf}
+use Rattle.block.specs.Steps.{step}
+use Rattle.block.specs.declared.answer.Step.the-variants.{R}
 
 -- a row: what is asked, and the document's answer
 pub data Row : Type 0 where
   is-older : ℕ → ℕ → Bool → Row
+  request-at : ℕ → ℕ → Row
 
 abbrev pub table : List Row
 table =
@@ -19,11 +26,20 @@ table =
     is-older 0 32768 true ∷
     is-older 32768 0 true ∷
     is-older 7 7 false ∷
+    request-at 32767 0 ∷
+    request-at 32768 15 ∷
     []
+
+-- the answer to a request with ticket 0 live, core 0's, and this counter
+unfoldable pub requestAt : ℕ → ℕ
+requestAt counter =
+    let live = step (fresh (record { cores = 2; first = 1; second = 0 }) (ticket 0)) (R (coreNo 0) (unitNo 0)) .table in
+    numberOf (step (withCounter live (ticket counter)) (R (coreNo 1) (unitNo 0)) .answer)
 
 -- the definitions give the document's answer
 abbrev pub Computes : Row → Type 0
 Computes (is-older a b answer) = older a b ≡ answer
+Computes (request-at counter answer) = requestAt counter ≡ answer
 
 -- and so at every row
 abbrev pub Every : List Row → Type 0

@@ -1,0 +1,125 @@
+-- The idle versions that document 01 shuts out, each by a step that they would answer wrongly: one that refuses every step, one with
+-- a single answer, one that returns the table untouched, and one that works the first step and invents the rest.
+use Prim.Native.Nat.{ℕ, _+_, _≤_, _<_}
+use mathlib.Core.Bool.{Bool, true, false, _&&_, not}
+use mathlib.Core.List.{[], _∷_}
+use mathlib.Core.Path.{_≡_, refl, sym, _∙_, ap}
+use native.Mathlib.Omega.{arith}
+use lib.Dec.{leb}
+use borrow.Author.Tests.{lt-leb, leb-true}
+use Rattle.ticket.specs.Kinds.{ticket}
+use Rattle.ticket.specs.Order.{behind, topBit, after}
+use Rattle.ticket.specs.declared.kinds.Ticket.{Ticket}
+use Rattle.block.specs.Table.{cores, coreNo, unitNo, coreOf}
+use Rattle.block.specs.Build.{inRange, fresh, perClass}
+use Rattle.block.specs.Answer.{numberOf}
+use Rattle.block.specs.Fold.{upTo}
+use Rattle.block.specs.Sound.{coreSound, unitSound, sound}
+use Rattle.block.specs.Verdict.{mayRequest, mayPoll, answered, unless, noCore, noUnit, stretched, old}
+use Rattle.block.specs.Steps.{requested, onSound, step}
+use Rattle.laws.specs.Shown.{shown}
+use Rattle.block.specs.declared.table.Counts.{Counts}
+use Rattle.block.specs.declared.table.Table.{Table}
+use Rattle.block.specs.declared.answer.Answer.the-variants.{Done, WrongState}
+use Rattle.block.specs.declared.answer.Step.{Step}
+use Rattle.block.specs.declared.answer.Step.the-variants.{R, N, P, I, C, L}
+use Rattle.block.specs.declared.answer.Stepped.{Stepped}
+use Rattle.block.specs.declared.verdict.Verdict.{Verdict}
+use Rattle.block.specs.declared.verdict.Verdict.the-variants.{Allowed, Refused}
+use Rattle.block.proofs.Bools.{and-left, and-right}
+use Rattle.block.proofs.Folds.{none-some}
+use Rattle.laws.proofs.Settling.{settle-same}
+use Rattle.laws.proofs.Keeping.{core-fresh, fresh-sound}
+
+-- a good header has a core and a first-class unit
+some-core : (c : Counts) → inRange c ≡ true → (1 ≤ c .cores) × (1 ≤ c .first)
+some-core c e =
+    let a = leb 1 (c .cores) in
+    let b = leb (c .cores) cores in
+    let d = leb 1 (c .first) in
+    let f = leb (c .first) perClass in
+    let g = leb (c .second) perClass in
+    let three = and-left (a && b && d) f (and-left (a && b && d && f) g e) in (
+      leb-true 1 (c .cores) (and-left a b (and-left (a && b) d three)),
+      leb-true 1 (c .first) (and-right (a && b) d three),
+    )
+
+module _ (c : Counts) (n : Ticket) (good : inRange c ≡ true) where
+  abbrev t : Table
+  t = fresh c n
+
+  abbrev R00 : Step
+  R00 = R (coreNo 0) (unitNo 0)
+
+  abbrev P0 : Step
+  P0 = P (coreNo 0)
+
+  on-fresh : (s : Step) → step t s ≡ onSound t s
+  unfolding step
+  on-fresh s = simp (fresh-sound c n good)
+
+  first-core : noCore t (coreNo 0) ≡ false
+  first-core = lt-leb (c .cores) 0 (some-core c good .0)
+
+  first-unit : noUnit t (unitNo 0) ≡ false
+  first-unit = lt-leb (c .first + c .second) 0 (omega (arith, some-core c good .1))
+
+  nobody-old : stretched t ≡ false
+  nobody-old = none-some (old t) cores (λ k h. simp (core-fresh c n k h))
+
+  allowed : mayRequest t (coreNo 0) (unitNo 0) ≡ Allowed
+  allowed = simp (first-core, first-unit, nobody-old)
+
+  -- the request is done, with the counter for its ticket
+  request : onSound t R00 ≡ requested t 0 (unitNo 0)
+  unfolding onSound
+  request = ap (λ (v : Verdict). answered t v (requested t 0 (unitNo 0))) allowed
+
+  pub not-refusing : numberOf (step t R00 .answer) ≡ 0
+  not-refusing = ap (λ (x : Stepped). numberOf (x .answer)) (on-fresh R00 ∙ request)
+
+  pub request-ticket : step t R00 .ticket ≡ n
+  request-ticket = ap (λ (x : Stepped). x .ticket) (on-fresh R00 ∙ request)
+
+  -- and a poll of the same core, which waits nowhere, is refused with 12
+  pub not-single : numberOf (step t P0 .answer) ≡ 12
+  unfolding onSound
+  not-single = ap (λ (x : Stepped). numberOf (x .answer)) (on-fresh P0) ∙ simp (first-core)
+
+  -- the request moves the counter
+  pub not-untouched : step t R00 .table .counter ≡ ticket (after (n .0))
+  not-untouched = ap (λ (x : Stepped). x .table .counter) (on-fresh R00 ∙ request) ∙ settle-same _ .2
+
+-- the run of document 01, every step of it
+pub not-inventing :
+    shown (fresh (record { cores = 3; first = 1; second = 1 }) (ticket 65535))
+    (R (coreNo 0) (unitNo 1) ∷
+    P (coreNo 0) ∷
+    R (coreNo 2) (unitNo 0) ∷
+    R (coreNo 1) (unitNo 0) ∷
+    I (coreNo 2) ∷
+    P (coreNo 1) ∷
+    N (coreNo 1) (unitNo 1) ∷
+    C (coreNo 2) ∷
+    P (coreNo 1) ∷
+    I (coreNo 0) ∷
+    L (coreNo 0) ∷
+    P (coreNo 1) ∷
+    L (coreNo 1) ∷
+    []) ≡
+    (0 ∷ 65535 ∷ 1 ∷ 0 ∷ []) ∷
+    (1 ∷ 65535 ∷ []) ∷
+    (0 ∷ 0 ∷ 0 ∷ 2 ∷ []) ∷
+    (0 ∷ 1 ∷ []) ∷
+    (0 ∷ 0 ∷ 0 ∷ 1 ∷ []) ∷
+    (1 ∷ 1 ∷ []) ∷
+    (0 ∷ 1 ∷ []) ∷
+    (0 ∷ 0 ∷ []) ∷
+    (2 ∷ 0 ∷ []) ∷
+    (14 ∷ 0 ∷ []) ∷
+    (0 ∷ 65535 ∷ 1 ∷ 1 ∷ []) ∷
+    (1 ∷ 0 ∷ []) ∷
+    (0 ∷ 1 ∷ 0 ∷ 2 ∷ []) ∷
+    []
+unfolding behind topBit after upTo coreSound unitSound sound onSound step shown
+not-inventing = refl
