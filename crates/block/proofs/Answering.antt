@@ -17,7 +17,6 @@ use Rattle.block.specs.Verdict.{answered, mayRequest, mayNest, mayPoll, 
 use Rattle.block.specs.Steps.{entered, freed, requested, nested, interrupted, cameBack, released}
 use Rattle.block.specs.Touched.{CalmTable}
 use Rattle.block.specs.declared.table.Core.{Core}
-use Rattle.block.specs.declared.table.State.{State}
 use Rattle.block.specs.declared.table.State.the-variants.{Waiting, WaitingSecond, Away}
 use Rattle.block.specs.declared.table.Table.{Table}
 use Rattle.block.specs.declared.answer.Answer.{Answer}

@@ -1,7 +1,7 @@
 -- The computed test and the record of parts say the same.
 use mathlib.Core.Bool.{Bool, true, _&&_}
 use mathlib.Core.Path.{_≡_}
-use Prim.Native.Nat.{ℕ, _<_}
+use Prim.Native.Nat.{ℕ}
 use Rattle.block.specs.Fold.{every}
 use Rattle.block.specs.Table.{cores, units, coreOf, unitOf, registerOf}
 use Rattle.block.specs.Build.{inRange}

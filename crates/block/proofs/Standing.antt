@@ -1,28 +1,26 @@
 -- What soundness says of one core: the units that it names are in the table, its registers elsewhere are blank, and nothing waits
 -- to be settled.
 use Prim.Native.Nat.{ℕ, _+_, _≤_, _<_}
-use mathlib.Core.Bool.{Bool, true, false, cond, _&&_, _||_, not}
-use mathlib.Core.Logic.{_⊎_, inl, inr, ⊎-elim, _≢_}
-use mathlib.Core.Path.{_≡_, refl, sym, _∙_, ap, ap₂, subst}
+use mathlib.Core.Bool.{Bool, true, false, cond, _&&_, not}
+use mathlib.Core.Logic.{⊎-elim, _≢_}
+use mathlib.Core.Path.{_≡_, refl, sym, _∙_, subst}
 use native.Mathlib.Omega.{arith}
 use lib.Dec.{eqb, leb, ltb}
 use borrow.Author.Tests.{eqb-true, ne-eqb, leb-true, ltb-true}
 use Rattle.ticket.specs.Kinds.{ticket}
 use Rattle.block.specs.Fold.{one}
-use Rattle.block.specs.State.{isIdle, stands, twoStage, waits}
+use Rattle.block.specs.State.{isIdle, stands, twoStage}
 use Rattle.block.specs.Table.{cores, units, blank, coreOf, unitOf, registerIn, registerOf, unitCount}
 use Rattle.block.specs.Build.{inRange, perClass}
-use Rattle.block.specs.Settle.{flags, inLine, next}
+use Rattle.block.specs.Settle.{flags}
 use Rattle.block.specs.Sound as S
 use Rattle.block.specs.Parts.{Sound}
 use Rattle.block.specs.Touched.{Calm, CalmTable}
 use Rattle.block.specs.declared.table.Register.{Register}
 use Rattle.block.specs.declared.table.LockUnit.{LockUnit}
 use Rattle.block.specs.declared.table.Core.{Core}
-use Rattle.block.specs.declared.table.State.{State}
 use Rattle.block.specs.declared.table.Counts.{Counts}
 use Rattle.block.specs.declared.table.Table.{Table}
-use Rattle.block.specs.declared.settle.Best.the-variants.{Nobody}
 use Rattle.block.proofs.Bools.{and-left, and-right, or-cases, not-true-false, clash}
 use Rattle.block.proofs.Folds.{some-none}
 use Rattle.block.proofs.Picking.{next-nobody}

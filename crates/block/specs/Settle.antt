@@ -2,7 +2,7 @@
 -- with the oldest register. These are the step's grants." Units settle by rising number. A unit without a flag has no register
 -- whose flag is set, so its oldest register is the oldest whose flag is clear: the next in line.
 use Prim.Native.Nat.{ℕ, _<_}
-use mathlib.Core.Bool.{Bool, true, false, cond, _&&_, not}
+use mathlib.Core.Bool.{Bool, cond, _&&_, not}
 use mathlib.Core.List.{List, [], _∷_, _++_}
 use lib.Dec.{eqb}
 use Rattle.ticket.specs.Kinds.{grant}

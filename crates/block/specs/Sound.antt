@@ -1,11 +1,11 @@
 -- "Sound. A table is sound when: .." One test for each clause, in the paragraph's order and words.
 use Prim.Native.Nat.{ℕ}
-use mathlib.Core.Bool.{Bool, true, false, cond, _&&_, _||_, not}
+use mathlib.Core.Bool.{Bool, cond, _&&_, _||_, not}
 use lib.Dec.{leb, ltb, eqb}
 use Rattle.ticket.specs.Order.{half, behind, older}
 use Rattle.ticket.specs.declared.kinds.Ticket.{Ticket}
 use Rattle.block.specs.Fold.{every, some, one}
-use Rattle.block.specs.State.{isIdle, isAway, stands, holdsFirst, holdsBoth, twoStage, unserved}
+use Rattle.block.specs.State.{isIdle, stands, holdsFirst, holdsBoth, twoStage, unserved}
 use Rattle.block.specs.Table.{cores, units, coreOf, unitOf, registerIn, registerOf, unitCount}
 use Rattle.block.specs.Build.{inRange}
 use Rattle.block.specs.Settle.{flags}

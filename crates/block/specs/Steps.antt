@@ -1,10 +1,8 @@
 -- "The steps": what each does when it is allowed, before settling; and the step whole.
 use Prim.Native.Nat.{ℕ}
-use mathlib.Core.Bool.{Bool, true, false, cond}
-use mathlib.Core.List.{[]}
+use mathlib.Core.Bool.{cond}
 use Rattle.ticket.specs.Kinds.{ticket}
 use Rattle.ticket.specs.Order.{after, older}
-use Rattle.ticket.specs.declared.kinds.CoreNo.{CoreNo}
 use Rattle.ticket.specs.declared.kinds.Ticket.{Ticket}
 use Rattle.ticket.specs.declared.kinds.UnitNo.{UnitNo}
 use Rattle.block.specs.Fold.{upTo}

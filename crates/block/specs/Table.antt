@@ -1,8 +1,8 @@
 -- "The table": reading it by core and unit number, and the changes that the moves are made of. Whatever stands past an array reads
 -- as blank.
+use mathlib.Core.List.{[]}
 use Prim.Native.Nat.{ℕ, _+_}
-use mathlib.Core.Bool.{Bool, true, false}
-use mathlib.Core.List.{List, []}
+use mathlib.Core.Bool.{true, false}
 use lib.ListN.{getD, set}
 use Rattle.ticket.specs.Kinds.{ticket}
 use Rattle.ticket.specs.declared.kinds.CoreNo.{CoreNo}

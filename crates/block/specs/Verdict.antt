@@ -1,6 +1,6 @@
 -- "Order for a step: 16, 10, 11, then 12 or 14, then 13, 15. Each is given exactly when its condition holds and no earlier one does."
 use Prim.Native.Nat.{ℕ}
-use mathlib.Core.Bool.{Bool, true, false, cond, _&&_, _||_, not}
+use mathlib.Core.Bool.{Bool, cond, _&&_, _||_, not}
 use lib.Dec.{leb, ltb}
 use Rattle.ticket.specs.Order.{behind, topBit}
 use Rattle.ticket.specs.declared.kinds.CoreNo.{CoreNo}

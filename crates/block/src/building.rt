@@ -36,7 +36,7 @@ pub(crate) fn idle() -> Core
 }
 
 // Whether counts are in range: 1 to 8 cores, 1 to 8 first-class units, 0 to 8 second-class units.
-pub(crate) fn in_range(c: Counts) -> bool
+pub fn in_range(c: Counts) -> bool
     ensures { λ r. ⌜ r ≡ inRange c ⌝ }
 {
     (1 <= c.cores) & (c.cores <= 8) & (1 <= c.first) & (c.first <= 8) & (c.second <= 8)

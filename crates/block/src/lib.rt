@@ -1,4 +1,7 @@
 // The lock block: registers, units, cores and the table; building; soundness; settling; the six steps.
+//
+// Entries, which have no `requires`: `build`, `in_range`, `number`, `Table::sound`, `Table::step`.
+// Seam, for a run that knows its table to be sound: `Table::step_sound`.
 mod answer;
 mod building;
 mod moves;
@@ -17,6 +20,7 @@ pub use answer::Stepped;
 pub use answer::number;
 pub use building::Built;
 pub use building::build;
+pub use building::in_range;
 pub use table::CORES;
 pub use table::Core;
 pub use table::Counts;

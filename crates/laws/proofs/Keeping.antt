@@ -9,7 +9,6 @@ use borrow.Author.Tests.{eq-eqb}
 use Rattle.ticket.specs.Kinds.{ticket}
 use Rattle.ticket.specs.declared.kinds.CoreNo.{CoreNo}
 use Rattle.ticket.specs.declared.kinds.Ticket.{Ticket}
-use Rattle.ticket.specs.declared.kinds.UnitNo.{UnitNo}
 use Rattle.block.specs.Fold.{one}
 use Rattle.block.specs.State.{isIdle, twoStage}
 use Rattle.block.specs.Table.{cores, units, blank, idle, noUnit, coreOf, unitOf, registerIn, registerOf}
@@ -19,7 +18,7 @@ use Rattle.block.specs.Sound as S
 use Rattle.block.specs.Sound.{sound}
 use Rattle.block.specs.Parts.{CoreSound, Sound}
 use Rattle.block.specs.Verdict.{answered, mayRequest, mayNest, mayPoll, mayInterrupt, mayComeBack, mayRelease}
-use Rattle.block.specs.Steps.{requested, nested, interrupted, cameBack, released, awaited, granted, notYet, polled, onSound, step}
+use Rattle.block.specs.Steps.{requested, nested, interrupted, cameBack, released, awaited, granted, notYet, polled, onSound}
 use Rattle.block.specs.declared.table.Register.{Register}
 use Rattle.block.specs.declared.table.LockUnit.{LockUnit}
 use Rattle.block.specs.declared.table.Core.{Core}

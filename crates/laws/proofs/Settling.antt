@@ -1,19 +1,19 @@
 -- Settling a table that is almost sound. One unit that settles either stays as it is or, having no flag, has the flag of one core in
 -- line set; so the unit ends with one flag if a register is valid, and nothing else of what makes the table sound changes.
+use mathlib.Core.List.{[]}
 use Prim.Native.Nat.{ℕ, _+_, _≤_, _<_}
 use mathlib.Core.Bool.{Bool, true, false, cond, _&&_, _||_, not}
-use mathlib.Core.List.{[]}
 use mathlib.Core.Logic.{_⊎_, inl, inr, _≢_}
 use mathlib.Core.Path.{_≡_, refl, sym, _∙_, ap, subst}
 use native.Mathlib.Nat.{le-antisymm, not-suc-le-zero}
 use native.Mathlib.Omega.{arith}
 use lib.Dec.{eqb}
-use borrow.Author.Tests.{eqb-true, eqb-false, eq-eqb}
+use borrow.Author.Tests.{eq-eqb}
 use Rattle.ticket.specs.declared.kinds.Ticket.{Ticket}
 use Rattle.block.specs.Fold.{some, count, one}
 use Rattle.block.specs.State.{stands, twoStage, holdsFirst, holdsBoth}
 use Rattle.block.specs.Table.{cores, units, flagged, coreOf, unitOf, registerIn, registerOf, withRegister}
-use Rattle.block.specs.Settle.{Settling, flags, inLine, next, give, settleAt, settleNext, settle}
+use Rattle.block.specs.Settle.{Settling, flags, inLine, settleAt, settleNext, settle}
 use Rattle.block.specs.Sound as S
 use Rattle.block.specs.Parts.{Sound}
 use Rattle.block.specs.Touched.{Calm}
@@ -21,8 +21,6 @@ use Rattle.block.specs.declared.table.Register.{Register}
 use Rattle.block.specs.declared.table.LockUnit.{LockUnit}
 use Rattle.block.specs.declared.table.Core.{Core}
 use Rattle.block.specs.declared.table.Table.{Table}
-use Rattle.block.specs.declared.settle.Best.{Best}
-use Rattle.block.specs.declared.settle.Best.the-variants.{Nobody, Core as Won}
 use Rattle.block.proofs.Bools.{and-left, and-right, and-both, not-true-false, flipped, clash}
 use Rattle.block.proofs.Folds.{some-at, at-some, none-some, some-none, count-change, count-some, none-count}
 use Rattle.block.proofs.Access.{Shaped, same-or-not, unit-other, register-same, register-core, register-unit, shaped-register}

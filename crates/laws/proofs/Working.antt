@@ -1,31 +1,30 @@
 -- The idle versions that document 01 shuts out, each by a step that they would answer wrongly: one that refuses every step, one with
 -- a single answer, one that returns the table untouched, and one that works the first step and invents the rest.
-use Prim.Native.Nat.{ℕ, _+_, _≤_, _<_}
-use mathlib.Core.Bool.{Bool, true, false, _&&_, not}
+use Prim.Native.Nat.{_+_, _≤_}
+use mathlib.Core.Bool.{true, false, _&&_}
 use mathlib.Core.List.{[], _∷_}
-use mathlib.Core.Path.{_≡_, refl, sym, _∙_, ap}
+use mathlib.Core.Path.{_≡_, refl, _∙_, ap}
 use native.Mathlib.Omega.{arith}
 use lib.Dec.{leb}
 use borrow.Author.Tests.{lt-leb, leb-true}
 use Rattle.ticket.specs.Kinds.{ticket}
 use Rattle.ticket.specs.Order.{behind, topBit, after}
 use Rattle.ticket.specs.declared.kinds.Ticket.{Ticket}
-use Rattle.block.specs.Table.{cores, coreNo, unitNo, coreOf}
+use Rattle.block.specs.Table.{cores, coreNo, unitNo}
 use Rattle.block.specs.Build.{inRange, fresh, perClass}
 use Rattle.block.specs.Answer.{numberOf}
 use Rattle.block.specs.Fold.{upTo}
 use Rattle.block.specs.Sound.{coreSound, unitSound, sound}
-use Rattle.block.specs.Verdict.{mayRequest, mayPoll, answered, unless, noCore, noUnit, stretched, old}
+use Rattle.block.specs.Verdict.{mayRequest, answered, noCore, noUnit, stretched, old}
 use Rattle.block.specs.Steps.{requested, onSound, step}
 use Rattle.laws.specs.Shown.{shown}
 use Rattle.block.specs.declared.table.Counts.{Counts}
 use Rattle.block.specs.declared.table.Table.{Table}
-use Rattle.block.specs.declared.answer.Answer.the-variants.{Done, WrongState}
 use Rattle.block.specs.declared.answer.Step.{Step}
 use Rattle.block.specs.declared.answer.Step.the-variants.{R, N, P, I, C, L}
 use Rattle.block.specs.declared.answer.Stepped.{Stepped}
 use Rattle.block.specs.declared.verdict.Verdict.{Verdict}
-use Rattle.block.specs.declared.verdict.Verdict.the-variants.{Allowed, Refused}
+use Rattle.block.specs.declared.verdict.Verdict.the-variants.{Allowed}
 use Rattle.block.proofs.Bools.{and-left, and-right}
 use Rattle.block.proofs.Folds.{none-some}
 use Rattle.laws.proofs.Settling.{settle-same}

@@ -1,7 +1,6 @@
 -- What the tester sees of a run of steps: for each its answer, its ticket, and unit and core of each grant.
 use Prim.Native.Nat.{ℕ}
 use mathlib.Core.List.{List, [], _∷_}
-use Rattle.ticket.specs.declared.kinds.Grant.{Grant}
 use Rattle.block.specs.Answer.{numberOf}
 use Rattle.block.specs.Steps.{step}
 use Rattle.block.specs.declared.table.Table.{Table}

@@ -1,8 +1,8 @@
 -- Differences round the circle. `behind a b` is the one number below 65,536 that leads from b to a.
-use Prim.Native.Nat.{ℕ, _+_, _-_, _%_, _≤_, _<_}
+use Prim.Native.Nat.{ℕ, _+_, _-_, _%_, _<_}
 use mathlib.Core.Path.{_≡_, sym, _∙_, ap}
 use native.Mathlib.Omega.{arith}
-use Rattle.ticket.specs.Order.{circle, half, behind}
+use Rattle.ticket.specs.Order.{circle, behind}
 
 pub behind-below : (a b : ℕ) → behind a b < circle
 unfolding behind

@@ -1,12 +1,12 @@
 -- The comparison is the order of issue. Tickets i and j of one counter lie j − i apart on the circle, whatever the start and
 -- however often it wrapped, so up to half a circle the earlier one reads older and the later one does not.
 -- On tickets that lie within the half circle behind a counter, older is further behind it: a strict total order.
-use Prim.Native.Nat.{ℕ, zero, suc, _+_, _-_, _%_, _≤_, _<_}
+use Prim.Native.Nat.{ℕ, zero, suc, _+_, _-_, _≤_, _<_}
 use mathlib.Core.Bool.{Bool, true, false}
 use mathlib.Core.Logic.{_⊎_, inl, inr}
 use mathlib.Core.Path.{_≡_, refl, sym, _∙_, ap}
 use native.Mathlib.Omega.{arith}
-use lib.Dec.{leb, ltb}
+use lib.Dec.{ltb}
 use borrow.Author.Tests.{le-leb, lt-leb, lt-ltb, le-ltb, ltb-true, ltb-false}
 use Rattle.ticket.specs.Order.{circle, half, behind, topBit, older, after, Window}
 use Rattle.ticket.specs.Issue.{nth, unitAfter}

@@ -5,3 +5,12 @@ use mathlib.Core.Path.{_≡_}
 abbrev pub Determines {κ α ξ σ} :
     {K : Type κ} {A : K → Type α} {X : K → Type ξ} {S : K → Type σ} → ((k : K) → A k → X k → S k → Type 0) → Type (κ ⊔ α ⊔ ξ ⊔ σ)
 Determines {K} {A} {X} {S} post = (k : K) (a : A k) (x y : X k) (s t : S k) → post k a x s → post k a y t → x ≡ y
+
+-- The same of lent memory: `left` reads from s what it holds at the end.
+abbrev pub DeterminesLeft {κ α ξ σ ℓ} :
+    {K : Type κ} {A : K → Type α} {X : K → Type ξ} {S : K → Type σ} {L : Type ℓ} →
+    ((k : K) → S k → L) →
+    ((k : K) → A k → X k → S k → Type 0) →
+    Type (κ ⊔ α ⊔ ξ ⊔ σ ⊔ ℓ)
+DeterminesLeft {K} {A} {X} {S} left post =
+    (k : K) (a : A k) (x y : X k) (s t : S k) → post k a x s → post k a y t → left k s ≡ left k t

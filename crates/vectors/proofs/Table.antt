@@ -8,4 +8,5 @@ use Rattle.vectors.specs.Table.{table, requestAt, Every}
 
 pub every-row : Every table
 unfolding behind topBit after upTo coreSound unitSound sound onSound step requestAt
-every-row = (refl, (refl, (refl, (refl, (refl, (refl, (refl, (refl, (refl, tt)))))))))
+every-row =
+    (refl, (refl, (refl, (refl, (refl, (refl, (refl, (refl, (refl, (refl, (refl, (refl, (refl, (refl, tt))))))))))))))

@@ -1,0 +1,136 @@
+-- "A reader goes over the lent script bytes and knows its place. It gives 21 if the next 14 bytes hold no line end, or the bytes up to
+-- it aren't a step line; 22 if fewer than 14 bytes remain and none is a line end. After the header, nothing left means finished; before
+-- it, nothing left is 22. A place past the end of the script counts as its end. Header order: 22, 20."
+use Prim.Native.Nat.{ℕ, zero, suc, _+_, _-_}
+use mathlib.Core.Bool.{cond, _&&_}
+use mathlib.Core.List.{List, [], _∷_}
+use lib.Dec.{eqb, leb}
+use lib.ListN.{length, getD, take, drop}
+use Rattle.ticket.specs.Kinds.{ticket}
+use Rattle.block.specs.Table.{coreNo, unitNo}
+use Rattle.block.specs.Build.{inRange}
+use Rattle.block.specs.declared.table.Counts.{Counts}
+use Rattle.block.specs.declared.answer.Step.the-variants.{R, N, P, I, C, L}
+use Rattle.lines.specs.Bytes.{tab, end, lineMost, letterT, letterR, letterN, letterP, letterI, letterC, letterL}
+use Rattle.lines.specs.Number.{field}
+use Rattle.lines.specs.declared.number.Field.{Field}
+use Rattle.lines.specs.declared.number.Field.the-variants.{Bad, Last, Then}
+use Rattle.lines.specs.declared.reading.Ending.{Ending}
+use Rattle.lines.specs.declared.reading.Ending.the-variants.{At, Long, Short}
+use Rattle.lines.specs.declared.reading.Parsed.{Parsed}
+use Rattle.lines.specs.declared.reading.Parsed.the-variants.{Good, Not}
+use Rattle.lines.specs.declared.reading.ParsedHeader.{ParsedHeader}
+use Rattle.lines.specs.declared.reading.ParsedHeader.the-variants.{Good as GoodHeader, Not as NoHeader}
+use Rattle.lines.specs.declared.reading.StepLine.{StepLine}
+use Rattle.lines.specs.declared.reading.StepLine.the-variants.{Line, Finished, Malformed, Unfinished}
+use Rattle.lines.specs.declared.reading.HeaderLine.{HeaderLine}
+use Rattle.lines.specs.declared.reading.HeaderLine.the-variants.{Header, BadHeader, Unfinished as Unended}
+
+-- looks at bytes i, i + 1 and so on, at most f of them, for a line's end
+unfoldable pub ending : ℕ → ℕ → List ℕ → Ending
+ending zero i bs = Long
+ending (suc f) i [] = Short
+ending (suc f) i (b ∷ bs) = cond (eqb b end) (At i) (let more = ending f (i + 1) bs in more)
+
+-- the end of the line that starts at a place
+abbrev pub lineEnd : List ℕ → ℕ → Ending
+lineEnd s at = ending lineMost at (drop at s)
+
+-- Step lines
+
+-- a letter with one number, and with two
+abbrev pub oneNumber : ℕ → ℕ → Parsed
+oneNumber letter k =
+    cond (eqb letter letterP) (Good (P (coreNo k)))
+    (cond (eqb letter letterI) (Good (I (coreNo k)))
+    (cond (eqb letter letterC) (Good (C (coreNo k)))
+    (cond (eqb letter letterL) (Good (L (coreNo k))) Not)))
+
+abbrev pub twoNumbers : ℕ → ℕ → ℕ → Parsed
+twoNumbers letter k u =
+    cond (eqb letter letterR) (Good (R (coreNo k) (unitNo u)))
+    (cond (eqb letter letterN) (Good (N (coreNo k) (unitNo u))) Not)
+
+-- what follows the core's number
+abbrev pub afterCore : ℕ → ℕ → Field → Parsed
+afterCore letter k Bad = Not
+afterCore letter k (Last u) = twoNumbers letter k u
+afterCore letter k (Then u i) = Not
+
+abbrev pub afterLetter : List ℕ → ℕ → Field → Parsed
+afterLetter s letter Bad = Not
+afterLetter s letter (Last k) = oneNumber letter k
+afterLetter s letter (Then k i) = afterCore letter k (field s i)
+
+-- the bytes of a line, without its end: the letter, a tab, and its numbers parted by tabs
+abbrev pub parseStep : List ℕ → Parsed
+parseStep s = cond (eqb (getD s 1 0) tab) (afterLetter s (getD s 0 0) (field s 2)) Not
+
+-- 21 or the step with the place after its line
+abbrev pub stepLine : Parsed → ℕ → StepLine
+stepLine (Good x) next = Line x next
+stepLine Not next = Malformed
+
+abbrev pub stepTo : List ℕ → ℕ → Ending → StepLine
+stepTo s at (At e) = stepLine (parseStep (take (e - at) (drop at s))) (e + 1)
+stepTo s at Long = Malformed
+stepTo s at Short = Unfinished
+
+-- the step line at a place
+abbrev pub readStep : List ℕ → ℕ → StepLine
+readStep s at = cond (leb (length s) at) Finished (stepTo s at (lineEnd s at))
+
+-- The header
+
+abbrev pub counts : ℕ → ℕ → ℕ → Counts
+counts a b c = record { cores = a; first = b; second = c }
+
+abbrev pub withCounter : ℕ → ℕ → ℕ → Field → ParsedHeader
+withCounter a b c Bad = NoHeader
+withCounter a b c (Last n) = GoodHeader (counts a b c) (ticket n)
+withCounter a b c (Then n i) = NoHeader
+
+abbrev pub withSecond : List ℕ → ℕ → ℕ → Field → ParsedHeader
+withSecond s a b Bad = NoHeader
+withSecond s a b (Last c) = NoHeader
+withSecond s a b (Then c i) = withCounter a b c (field s i)
+
+abbrev pub withFirst : List ℕ → ℕ → Field → ParsedHeader
+withFirst s a Bad = NoHeader
+withFirst s a (Last b) = NoHeader
+withFirst s a (Then b i) = withSecond s a b (field s i)
+
+abbrev pub withCores : List ℕ → Field → ParsedHeader
+withCores s Bad = NoHeader
+withCores s (Last a) = NoHeader
+withCores s (Then a i) = withFirst s a (field s i)
+
+abbrev pub parseHeader : List ℕ → ParsedHeader
+parseHeader s = cond (eqb (getD s 0 0) letterT && eqb (getD s 1 0) tab) (withCores s (field s 2)) NoHeader
+
+-- 20, or the header with the place after its line
+abbrev pub headerLine : ParsedHeader → ℕ → HeaderLine
+headerLine (GoodHeader c n) next = cond (inRange c) (Header c n next) BadHeader
+headerLine NoHeader next = BadHeader
+
+abbrev pub headerTo : List ℕ → ℕ → Ending → HeaderLine
+headerTo s at (At e) = headerLine (parseHeader (take (e - at) (drop at s))) (e + 1)
+headerTo s at Long = BadHeader
+headerTo s at Short = Unended
+
+-- the header at a place
+abbrev pub readHeader : List ℕ → ℕ → HeaderLine
+readHeader s at = cond (leb (length s) at) Unended (headerTo s at (lineEnd s at))
+
+-- Document 01's numbers
+
+abbrev pub stepLineNumber : StepLine → ℕ
+stepLineNumber (Line x next) = 0
+stepLineNumber Finished = 0
+stepLineNumber Malformed = 21
+stepLineNumber Unfinished = 22
+
+abbrev pub headerLineNumber : HeaderLine → ℕ
+headerLineNumber (Header c n next) = 0
+headerLineNumber BadHeader = 20
+headerLineNumber Unended = 22

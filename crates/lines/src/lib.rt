@@ -1,0 +1,20 @@
+// Script lines and expected lines as bytes.
+//
+// Every public function is an entry: none has a `requires`. A reader goes over lent bytes from a place
+// and answers an enum; a writer puts one whole line into lent bytes at a place, or changes none.
+mod number;
+mod reading;
+mod text;
+mod writing;
+
+pub use number::Field;
+pub use number::read_field;
+pub use reading::HeaderLine;
+pub use reading::StepLine;
+pub use reading::read_header;
+pub use reading::read_step;
+pub use writing::Written;
+pub use writing::write_expected;
+pub use writing::write_header;
+pub use writing::write_opening;
+pub use writing::write_step;

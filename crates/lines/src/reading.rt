@@ -1,0 +1,258 @@
+// Reading a header or a step line at a place.
+use crate::number::Field;
+use crate::number::read_field;
+use block::Counts;
+use block::Step;
+use block::in_range;
+use ticket::CoreNo;
+use ticket::Ticket;
+use ticket::UnitNo;
+ghost use mathlib.Core.Path.{_≡_};
+ghost use Prim.Native.Nat.{_≤_, _<_};
+ghost use lib.ListN.{length};
+ghost use Rattle.lines.specs.Reading.{lineEnd, oneNumber, twoNumbers, afterCore, afterLetter, parseStep, stepTo, readStep, withCounter, withSecond, withFirst, withCores, parseHeader, headerTo, readHeader};
+
+// The longest script line, with its end.
+pub const LINE_MOST: usize = 14;
+
+// Where a line ends: the place of its end; or not within the longest line; or not yet.
+pub enum Ending {
+    At(usize),
+    Long,
+    Short,
+}
+
+// The bytes of a line as a step.
+pub enum Parsed {
+    Good(Step),
+    Not,
+}
+
+// The bytes of a line as a header.
+pub enum ParsedHeader {
+    Good(Counts, Ticket),
+    Not,
+}
+
+// What stands at a place after the header: a step and the place after its line; nothing; a malformed
+// line, 21; a line that is not finished, 22.
+pub enum StepLine {
+    Line(Step, usize),
+    Finished,
+    Malformed,
+    Unfinished,
+}
+
+// What stands at a place before the header: a good header and the place after its line; something
+// else, 20; a line that is not finished, 22.
+pub enum HeaderLine {
+    Header(Counts, Ticket, usize),
+    BadHeader,
+    Unfinished,
+}
+
+// The end of the line that starts at a place.
+fn line_end(s: &[u8], at: usize) -> Ending
+    ensures { λ r. ⌜ r ≡ lineEnd (now (s .entry)) at ⌝ }
+{
+    let mut i = at;
+    let mut left = LINE_MOST;
+    while 0 < left {
+        if s.len() <= i {
+            return Ending::Short;
+        }
+        if s[i] == 10 {
+            return Ending::At(i);
+        }
+        i += 1;
+        left -= 1;
+    }
+    Ending::Long
+}
+
+// A letter with one number.
+fn one_number(letter: u8, k: u16) -> Parsed
+    ensures { λ r. ⌜ r ≡ oneNumber letter k ⌝ }
+{
+    if letter == b'P' {
+        Parsed::Good(Step::P(CoreNo(k)))
+    } else if letter == b'I' {
+        Parsed::Good(Step::I(CoreNo(k)))
+    } else if letter == b'C' {
+        Parsed::Good(Step::C(CoreNo(k)))
+    } else if letter == b'L' {
+        Parsed::Good(Step::L(CoreNo(k)))
+    } else {
+        Parsed::Not
+    }
+}
+
+// A letter with two numbers.
+fn two_numbers(letter: u8, k: u16, u: u16) -> Parsed
+    ensures { λ r. ⌜ r ≡ twoNumbers letter k u ⌝ }
+{
+    if letter == b'R' {
+        Parsed::Good(Step::R(CoreNo(k), UnitNo(u)))
+    } else if letter == b'N' {
+        Parsed::Good(Step::N(CoreNo(k), UnitNo(u)))
+    } else {
+        Parsed::Not
+    }
+}
+
+// The core's number is read; f is the field after it.
+fn after_core(letter: u8, k: u16, f: Field) -> Parsed
+    ensures { λ r. ⌜ r ≡ afterCore letter k f ⌝ }
+{
+    match f {
+        Field::Bad => Parsed::Not,
+        Field::Last(u) => two_numbers(letter, k, u),
+        Field::Then(_, _) => Parsed::Not,
+    }
+}
+
+// The letter is read; f is the field after it.
+fn after_letter(s: &[u8], letter: u8, f: Field) -> Parsed
+    ensures { λ r. ⌜ r ≡ afterLetter (now (s .entry)) letter f ⌝ }
+{
+    match f {
+        Field::Bad => Parsed::Not,
+        Field::Last(k) => one_number(letter, k),
+        Field::Then(k, i) => after_core(letter, k, read_field(s, i)),
+    }
+}
+
+// The bytes of a line, without its end, as a step.
+fn parse_step(s: &[u8]) -> Parsed
+    ensures { λ r. ⌜ r ≡ parseStep (now (s .entry)) ⌝ }
+{
+    if s.len() < 2 {
+        return Parsed::Not;
+    }
+    if s[1] == 9 {
+        after_letter(s, s[0], read_field(s, 2))
+    } else {
+        Parsed::Not
+    }
+}
+
+// The step line at a place.
+pub fn read_step(s: &[u8], at: usize) -> StepLine
+    ensures { λ r. ⌜ r ≡ readStep (now (s .entry)) at ⌝ }
+{
+    if s.len() <= at {
+        return StepLine::Finished;
+    }
+    match line_end(s, at) {
+        Ending::At(e) => step_at(s, at, e),
+        Ending::Long => StepLine::Malformed,
+        Ending::Short => StepLine::Unfinished,
+    }
+}
+
+// The step line from a place to its end, e.
+fn step_at(s: &[u8], at: usize, e: usize) -> StepLine
+    requires { ⌜ (at ≤ e) × (e < length (now s)) ⌝ }
+    ensures { λ r. ⌜ r ≡ stepTo (now (s .entry)) at (Ending.At e) ⌝ }
+{
+    match parse_step(&s[at..e]) {
+        Parsed::Good(x) => StepLine::Line(x, e + 1),
+        Parsed::Not => StepLine::Malformed,
+    }
+}
+
+// The last of a header's numbers: f is its field.
+fn with_counter(a: u16, b: u16, c: u16, f: Field) -> ParsedHeader
+    ensures { λ r. ⌜ r ≡ withCounter a b c f ⌝ }
+{
+    match f {
+        Field::Bad => ParsedHeader::Not,
+        Field::Last(n) => {
+            let counts = Counts {
+                cores: a,
+                first: b,
+                second: c,
+            };
+            ParsedHeader::Good(counts, Ticket(n))
+        }
+        Field::Then(_, _) => ParsedHeader::Not,
+    }
+}
+
+// The third: f is its field.
+fn with_second(s: &[u8], a: u16, b: u16, f: Field) -> ParsedHeader
+    ensures { λ r. ⌜ r ≡ withSecond (now (s .entry)) a b f ⌝ }
+{
+    match f {
+        Field::Bad => ParsedHeader::Not,
+        Field::Last(_) => ParsedHeader::Not,
+        Field::Then(c, i) => with_counter(a, b, c, read_field(s, i)),
+    }
+}
+
+// The second: f is its field.
+fn with_first(s: &[u8], a: u16, f: Field) -> ParsedHeader
+    ensures { λ r. ⌜ r ≡ withFirst (now (s .entry)) a f ⌝ }
+{
+    match f {
+        Field::Bad => ParsedHeader::Not,
+        Field::Last(_) => ParsedHeader::Not,
+        Field::Then(b, i) => with_second(s, a, b, read_field(s, i)),
+    }
+}
+
+// The first: f is its field.
+fn with_cores(s: &[u8], f: Field) -> ParsedHeader
+    ensures { λ r. ⌜ r ≡ withCores (now (s .entry)) f ⌝ }
+{
+    match f {
+        Field::Bad => ParsedHeader::Not,
+        Field::Last(_) => ParsedHeader::Not,
+        Field::Then(a, i) => with_first(s, a, read_field(s, i)),
+    }
+}
+
+// The bytes of a line, without its end, as a header.
+fn parse_header(s: &[u8]) -> ParsedHeader
+    ensures { λ r. ⌜ r ≡ parseHeader (now (s .entry)) ⌝ }
+{
+    if s.len() < 2 {
+        return ParsedHeader::Not;
+    }
+    if (s[0] == b'T') & (s[1] == 9) {
+        with_cores(s, read_field(s, 2))
+    } else {
+        ParsedHeader::Not
+    }
+}
+
+// The header from a place to its end, e.
+fn header_at(s: &[u8], at: usize, e: usize) -> HeaderLine
+    requires { ⌜ (at ≤ e) × (e < length (now s)) ⌝ }
+    ensures { λ r. ⌜ r ≡ headerTo (now (s .entry)) at (Ending.At e) ⌝ }
+{
+    match parse_header(&s[at..e]) {
+        ParsedHeader::Good(c, n) => {
+            if in_range(c) {
+                HeaderLine::Header(c, n, e + 1)
+            } else {
+                HeaderLine::BadHeader
+            }
+        }
+        ParsedHeader::Not => HeaderLine::BadHeader,
+    }
+}
+
+// The header at a place.
+pub fn read_header(s: &[u8], at: usize) -> HeaderLine
+    ensures { λ r. ⌜ r ≡ readHeader (now (s .entry)) at ⌝ }
+{
+    if s.len() <= at {
+        return HeaderLine::Unfinished;
+    }
+    match line_end(s, at) {
+        Ending::At(e) => header_at(s, at, e),
+        Ending::Long => HeaderLine::BadHeader,
+        Ending::Short => HeaderLine::Unfinished,
+    }
+}

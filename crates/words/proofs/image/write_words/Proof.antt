@@ -1,0 +1,86 @@
+-- `words::image::write_words` meets its contract: after i turns, the first i words are written.
+use borrow.Author.Needs.{needs}
+use Prim.Native.Nat.{ℕ, _+_, _-_, _≤_}
+use mathlib.Core.List.{List}
+use mathlib.Core.Path.{_≡_, _∙_, ap}
+use native.Mathlib.Omega.{arith}
+use lib.ListN.{length, set}
+use Rattle.block.specs.Fold.{upTo}
+use Rattle.block.specs.declared.table.Counts.{Counts}
+use Rattle.block.specs.declared.table.LockUnit.{LockUnit}
+use Rattle.block.specs.declared.table.Register.{Register}
+use Rattle.block.proofs.Folds.{none, more, finished}
+use Rattle.words.specs.Word.{wordOf}
+use Rattle.words.specs.Image.{wordCount, registerAt, wordsInto}
+use Rattle.words.proofs.image.write_words.Statement.{statement}
+use Rattle.words.proofs.image.write_words.Tie as tie
+
+module _ (c : Counts) (xs : List LockUnit) where
+  abbrev put : ℕ → List ℕ → List ℕ
+  put i o = set o i (wordOf (registerAt c xs i))
+
+  module _ (i : ℕ) (out o : List ℕ) (so : o ≡ upTo put i out) where
+    turn : (r : Register) (w : ℕ) → r ≡ registerAt c xs i → w ≡ wordOf r → set o i w ≡ upTo put (i + 1) out
+    turn r w is says = more put i out o (set o i w) so (ap (set o i) (says ∙ ap wordOf is))
+
+    ended : (n : ℕ) → n ≡ wordCount c → i ≤ n → n ≤ i → o ≡ wordsInto c xs out
+    ended n is low high = finished put i n out o so low high ∙ ap (λ (m : ℕ). upTo put m out) is
+
+abbrev Inv-loop : tie.InvT-loop
+Inv-loop c units out₀ i₀ out i = (i ≤ length out₀) × (length out ≡ length out₀) × (out ≡ upTo (put c units) i out₀)
+
+abbrev μ-loop : tie.MeasureT-loop
+μ-loop c units out₀ i₀ out i = length out₀ - i
+
+loop-holds : tie.Need-loop-holds Inv-loop μ-loop
+loop-holds c = search (none, needs)
+
+register-at-requires : tie.Need-register-at-requires Inv-loop μ-loop
+register-at-requires c κs = search needs
+
+word-of-requires : tie.Need-word-of-requires Inv-loop μ-loop
+word-of-requires c κs = search needs
+
+mul-out : tie.Need-mul-out Inv-loop μ-loop
+mul-out c = search needs
+
+slice-write-out : tie.Need-slice-write-out Inv-loop μ-loop
+slice-write-out c = search needs
+
+add-i : tie.Need-add-i Inv-loop μ-loop
+add-i c = search needs
+
+loop-less : tie.Need-loop-less Inv-loop μ-loop
+loop-less c = search needs
+
+loop-again : tie.Need-loop-again Inv-loop μ-loop
+loop-again c =
+    let s = c .before .before .before .before .before in
+    (search needs, search needs, search (turn (s .args .c) (s .args .units)))
+
+same-length : tie.Need-same-length Inv-loop μ-loop
+same-length c = search needs
+
+returns : tie.Need-returns Inv-loop μ-loop
+returns c =
+    let s = c .before .before .before in
+    let l = c .before .loop in
+    let n = length (s .args .out .now) in
+    ended (s .args .c) (s .args .units) (l .i) (s .args .out .now) (l .out) (l .inv .2) n (s .pre .1) (l .inv .0) (omega arith)
+
+pub write-words-spec : {M : Type 1} → statement M
+write-words-spec =
+    tie.close
+    (tie.spec
+    Inv-loop
+    μ-loop
+    loop-holds
+    register-at-requires
+    word-of-requires
+    mul-out
+    slice-write-out
+    add-i
+    loop-less
+    loop-again
+    same-length
+    returns)

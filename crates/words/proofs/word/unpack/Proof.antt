@@ -1,0 +1,40 @@
+-- `words::word::unpack` meets its contract: bits above 17 are 0 exactly in a word below 2^18, and then `fits` decides.
+use borrow.Author.Needs.{needs}
+use Prim.Native.Nat.{ℕ, _/_}
+use mathlib.Core.Bool.{Bool, true, false}
+use mathlib.Core.Path.{_≡_, sym, _∙_, ap}
+use native.Mathlib.Omega.{arith}
+use borrow.Author.Tests.{le-leb, lt-leb}
+use Rattle.block.specs.declared.table.Register.{Register}
+use Rattle.words.specs.Word.{fits, registerOf, unpack}
+use Rattle.words.specs.declared.word.Unpacked.the-variants.{Register as Shown, Refused as Bad}
+use Rattle.words.proofs.word.unpack.Statement.{statement}
+use Rattle.words.proofs.word.unpack.Tie as tie
+
+wide : (w : ℕ) → (w / 262144 ≡ 0 → ⊥) → Bad ≡ unpack w
+wide w h = rw (le-leb 262144 w (omega arith))
+
+module _ (w : ℕ) (r : Register) (b : Bool) (narrow : w / 262144 ≡ 0) (is : r ≡ registerOf w) (says : b ≡ fits r) where
+  shown : b ≡ true → Shown r ≡ unpack w
+  shown e = rw (lt-leb 262144 w (omega arith), ap fits (sym is) ∙ sym says ∙ e) (ap Shown is)
+
+  bad : b ≡ false → Bad ≡ unpack w
+  bad e = rw (lt-leb 262144 w (omega arith), ap fits (sym is) ∙ sym says ∙ e)
+
+returns : tie.Need-returns
+returns c = search wide
+
+register-of-requires : tie.Need-register-of-requires
+register-of-requires c κs = search needs
+
+fits-requires : tie.Need-fits-requires
+fits-requires c κs = search needs
+
+returns-2 : tie.Need-returns-2
+returns-2 c = search shown
+
+returns-3 : tie.Need-returns-3
+returns-3 c = search bad
+
+pub unpack-spec : {M : Type 1} → statement M
+unpack-spec = tie.close (tie.spec returns register-of-requires fits-requires returns-2 returns-3)

@@ -1,0 +1,42 @@
+-- "A register reads back as 32 bits: bits 0 to 15 ticket, bit 16 valid, bit 17 flag, the rest 0. An invalid register is the word 0.
+-- Anything else is 30." "Writing an invalid register that has a ticket other than 0 or a flag is 30 too."
+use Prim.Native.Nat.{ℕ, _+_, _*_, _/_, _%_}
+use mathlib.Core.Bool.{Bool, true, false, cond, _&&_, _||_, not}
+use lib.Dec.{eqb, leb}
+use Rattle.ticket.specs.Kinds.{ticket}
+use Rattle.block.specs.declared.table.Register.{Register}
+use Rattle.words.specs.declared.word.Packed.{Packed}
+use Rattle.words.specs.declared.word.Packed.the-variants.{Word, Refused}
+use Rattle.words.specs.declared.word.Unpacked.{Unpacked}
+use Rattle.words.specs.declared.word.Unpacked.the-variants.{Register as Shown, Refused as Bad}
+
+abbrev pub bit : Bool → ℕ
+bit true = 1
+bit false = 0
+
+-- ticket in bits 0 to 15, valid in bit 16, flag in bit 17
+abbrev pub wordOf : Register → ℕ
+wordOf r = r .ticket .0 + 65536 * bit (r .valid) + 131072 * bit (r .flag)
+
+-- a register that a word can show: valid, or blank
+abbrev pub fits : Register → Bool
+fits r = r .valid || (eqb (r .ticket .0) 0 && not (r .flag))
+
+abbrev pub pack : Register → Packed
+pack r = cond (fits r) (Word (wordOf r)) Refused
+
+-- the bits of a word, read back
+abbrev pub registerOf : ℕ → Register
+registerOf w = record { ticket = ticket (w % 65536); valid = eqb (w / 65536 % 2) 1; flag = eqb (w / 131072) 1 }
+
+abbrev pub unpack : ℕ → Unpacked
+unpack w = cond (leb 262144 w) Bad (cond (fits (registerOf w)) (Shown (registerOf w)) Bad)
+
+-- the numbers that the answers carry: 30 where no word or register is given
+abbrev pub packedNumber : Packed → ℕ
+packedNumber (Word w) = 0
+packedNumber Refused = 30
+
+abbrev pub unpackedNumber : Unpacked → ℕ
+unpackedNumber (Shown r) = 0
+unpackedNumber Bad = 30
