@@ -1,7 +1,7 @@
 // The table of cores, lock units and the ticket counter.
 //
-// What lies in an array has its fields from wide to narrow and no gap, so that a table is copied in
-// one block.
+// What lies in an array has its fields from wide to narrow and no gap: a table with a gap cannot be
+// copied in blocks.
 use ticket::Ticket;
 use ticket::UnitNo;
 
