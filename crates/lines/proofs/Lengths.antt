@@ -1,11 +1,10 @@
--- The digits of a number by the tests that a writer makes, how many there are, and how long a line is with its end: each field is
--- bounded by its greatest number, and the sums are those of the definitions. Each bound of a line is reached.
-use Prim.Native.Nat.{ℕ, zero, suc, _+_, _-_, _/_, _%_, _≤_, _<_}
+-- How many digits a number has, and how long a line is with its end: each field is bounded by its greatest number, and the sums are
+-- those of the definitions. Each bound of a line is reached.
+use Prim.Native.Nat.{ℕ, zero, suc, _+_, _/_, _%_, _≤_, _<_}
 use mathlib.Core.Bool.{Bool, true, false, cond, _&&_}
 use mathlib.Core.Logic.{_⊎_, inl, inr}
 use mathlib.Core.List.{[], _∷_, _++_}
 use mathlib.Core.Path.{_≡_, refl}
-use native.Mathlib.Numerals.{sub-one}
 use native.Mathlib.Omega.{arith}
 use lib.Dec.{leb, ltb}
 use lib.ListN.{length, length-append}
@@ -29,19 +28,6 @@ use Rattle.lines.specs.Number.{digits, decimal, numberMost}
 use Rattle.lines.proofs.ReadsBack.{Small}
 use Rattle.lines.proofs.Scanning
 use Rattle.lines.specs.Writing.{lettered, lettered2, stepBytes, headerBytes, grantsBytes, expectedBytes}
-
--- the digits, by the tests that a writer makes
-pub digits-none : (f n : ℕ) → f ≡ 0 → digits f n ≡ []
-unfolding digits
-digits-none f n e = rw e
-
-pub digits-one : (f n : ℕ) → (f ≡ 0 → ⊥) → n < 10 → digits f n ≡ (48 + n) ∷ []
-digits-one zero n some h = absurd (some refl)
-digits-one (suc f) n some h = Scanning.digits-one f n h
-
-pub digits-more : (f n : ℕ) → (f ≡ 0 → ⊥) → 10 ≤ n → digits f n ≡ digits (f - 1) (n / 10) ++ ((48 + n % 10) ∷ [])
-digits-more zero n some h = absurd (some refl)
-digits-more (suc f) n some h = rw sub-one (Scanning.digits-more f n h)
 
 -- at most as many as asked for
 pub digits-most : (f n : ℕ) → length (digits f n) ≤ f
@@ -157,6 +143,26 @@ grants-most (Two g h) l =
       decimal-two (h .unit .0) (omega arith),
       decimal-one (h .core .0) (omega arith),
     ))
+
+-- and whatever the numbers are, each has at most ten digits
+grants-bound : (g : Grants) → length (grantsBytes g) ≤ 55
+grants-bound None = omega (arith, decimal-most 0)
+grants-bound (One g) =
+    simp length-append (omega (arith, decimal-most 1, decimal-most (g .unit .0), decimal-most (g .core .0)))
+grants-bound (Two g h) =
+    simp length-append
+    (omega (
+      arith,
+      decimal-most 2,
+      decimal-most (g .unit .0),
+      decimal-most (g .core .0),
+      decimal-most (h .unit .0),
+      decimal-most (h .core .0),
+    ))
+
+pub expected-bound : (i : ℕ) (a : Answer) (n : Ticket) (g : Grants) → length (expectedBytes i a n g) ≤ 88
+expected-bound i a n g =
+    simp length-append (omega (arith, decimal-most i, decimal-most (numberOf a), decimal-most (n .0), grants-bound g))
 
 -- a line without grants may have an answer of two digits; one with grants has not
 pub expected-most :

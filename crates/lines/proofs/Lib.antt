@@ -2,6 +2,8 @@ pub mod Turns
 pub mod Scanning
 pub mod ReadsBack
 pub mod AsWritten
-pub mod Growth
+pub mod Pasting
+pub mod Parts
 pub mod Lengths
 pub mod Determined
+pub mod Reader

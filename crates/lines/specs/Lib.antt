@@ -3,3 +3,4 @@ pub mod Number
 pub mod Reading
 pub mod Writing
 pub mod Text
+pub mod Script

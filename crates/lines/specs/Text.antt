@@ -1,23 +1,19 @@
--- A line as it is built, before it is copied out whole: the first `len` of its bytes.
-use Prim.Native.Nat.{ℕ, _+_, _≤_}
-use mathlib.Core.List.{List, _++_}
+-- Numbers as they are put into lent bytes from a place on.
+use Prim.Native.Nat.{ℕ, _+_, _/_, _%_, _≤_}
+use mathlib.Core.List.{List, [], _∷_, _++_}
 use mathlib.Core.Path.{_≡_}
-use lib.ListN.{length, take}
-use Rattle.lines.specs.declared.text.Text.{Text}
+use lib.ListN.{length}
+use Rattle.lines.specs.Writing.{pasted}
 
--- how many bytes a text has room for
-abbrev pub room : ℕ
-room = 56
+-- the two digits of a number below 100, and the four of one below 10,000
+abbrev pub two : ℕ → List ℕ
+two n = (48 + n / 10) ∷ (48 + n % 10) ∷ []
 
-abbrev pub shown : Text → List ℕ
-shown t = take (t .len) (t .bytes)
+abbrev pub four : ℕ → List ℕ
+four n = two (n / 100) ++ two (n % 100)
 
--- r is t with xs after it
-pub record Grows (t r : Text) (xs : List ℕ) : Type 0 where
-  pub shows : shown r ≡ shown t ++ xs
-  pub grown : r .len ≡ t .len + length xs
-
--- t is the line xs
-pub record Line (t : Text) (xs : List ℕ) : Type 0 where
-  pub shows : shown t ≡ xs
-  pub within : t .len ≤ room
+-- m is o with xs in it from a place on, up to the next place
+pub record Puts (o m : List ℕ) (at next : ℕ) (xs : List ℕ) : Type 0 where
+  pub holds : m ≡ pasted o at xs
+  pub goes : next ≡ at + length xs
+  pub fits : at + length xs ≤ length o

@@ -137,7 +137,7 @@ fn parse_step(s: &[u8]) -> Parsed
 }
 
 // The step line at a place.
-pub fn read_step(s: &[u8], at: usize) -> StepLine
+pub(crate) fn step_line_at(s: &[u8], at: usize) -> StepLine
     ensures { λ r. ⌜ r ≡ readStep (now (s .entry)) at ⌝ }
 {
     if s.len() <= at {
@@ -244,7 +244,7 @@ fn header_at(s: &[u8], at: usize, e: usize) -> HeaderLine
 }
 
 // The header at a place.
-pub fn read_header(s: &[u8], at: usize) -> HeaderLine
+pub(crate) fn header_line_at(s: &[u8], at: usize) -> HeaderLine
     ensures { λ r. ⌜ r ≡ readHeader (now (s .entry)) at ⌝ }
 {
     if s.len() <= at {

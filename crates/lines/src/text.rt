@@ -1,70 +1,122 @@
-// A line as it is built, by value, before it is copied out whole.
+// Numbers as they are written, put into lent bytes from a place on.
+//
+// Each function that puts bytes answers the place after them. No digit is taken off by a loop: four
+// digits are two numbers below 100.
 ghost use mathlib.Core.Path.{_≡_};
-ghost use mathlib.Core.List.{[], _∷_};
 ghost use Prim.Native.Nat.{_+_, _<_, _≤_};
 ghost use lib.ListN.{length};
-ghost use Rattle.lines.specs.Number.{digits, decimal};
-ghost use Rattle.lines.specs.Text.{room, Grows};
+ghost use Rattle.lines.specs.Number.{decimal};
+ghost use Rattle.lines.specs.Text.{two, four, Puts};
 ghost use Rattle.lines.specs.Writing.{tabbed};
 
-// No line is longer: ten digits, seven times a tab and five digits, and the end are 53 bytes. With
-// 56 a text has no gap, so that it is copied in one block.
-pub(crate) const ROOM: usize = 56;
-
-// The first `len` bytes are the line so far.
-pub(crate) struct Text {
-    pub(crate) len: usize,
-    pub(crate) bytes: [u8; ROOM],
+// The two digits of a number below 100.
+fn put_two(out: &mut [u8], at: usize, n: u32) -> usize
+    requires { ⌜ (n < 100) × (at + 2 ≤ length (now out)) ⌝ }
+    ensures { λ r. ⌜ Puts (now (out .entry)) (now (out .exit)) at r (two n) ⌝ }
+{
+    out[at] = (48 + n / 10) as u8;
+    out[at + 1] = (48 + n % 10) as u8;
+    at + 2
 }
 
-// A text with nothing in it.
-pub(crate) fn empty() -> Text
-    ensures { λ r. ⌜ r .len ≡ 0 ⌝ }
+// The four digits of a number below 10,000.
+fn put_four(out: &mut [u8], at: usize, n: u32) -> usize
+    requires { ⌜ (n < 10000) × (at + 4 ≤ length (now out)) ⌝ }
+    ensures { λ r. ⌜ Puts (now (out .entry)) (now (out .exit)) at r (four n) ⌝ }
 {
-    Text {
-        len: 0,
-        bytes: [0; ROOM],
-    }
+    let middle = put_two(out, at, n / 100);
+    put_two(out, middle, n % 100)
 }
 
-// One more byte.
-pub(crate) fn put(t: Text, b: u8) -> Text
-    requires { ⌜ t .len < room ⌝ }
-    ensures { λ r. ⌜ Grows t r (b ∷ []) ⌝ }
+// A number below 10,000.
+fn put_short(out: &mut [u8], at: usize, n: u32) -> usize
+    requires { ⌜ (n < 10000) × (at + length (decimal n) ≤ length (now out)) ⌝ }
+    ensures { λ r. ⌜ Puts (now (out .entry)) (now (out .exit)) at r (decimal n) ⌝ }
 {
-    let mut bytes = t.bytes;
-    let at = t.len;
-    bytes[at] = b;
-    Text { len: at + 1, bytes }
-}
-
-// The digits of `n`, or the last `most` of them.
-fn put_digits(t: Text, n: u32, most: usize) -> Text
-    requires { ⌜ t .len + length (digits most n) ≤ room ⌝ }
-    ensures { λ r. ⌜ Grows t r (digits most n) ⌝ }
-{
-    if most == 0 {
-        return t;
-    }
     if n < 10 {
-        return put(t, (48 + n) as u8);
+        out[at] = (48 + n) as u8;
+        return at + 1;
     }
-    let before = put_digits(t, n / 10, most - 1);
-    put(before, (48 + n % 10) as u8)
+    if n < 100 {
+        return put_two(out, at, n);
+    }
+    if n < 1000 {
+        out[at] = (48 + n / 100) as u8;
+        return put_two(out, at + 1, n % 100);
+    }
+    put_four(out, at, n)
+}
+
+// A number below 100,000,000.
+fn put_long(out: &mut [u8], at: usize, n: u32) -> usize
+    requires { ⌜ (n < 100000000) × (at + length (decimal n) ≤ length (now out)) ⌝ }
+    ensures { λ r. ⌜ Puts (now (out .entry)) (now (out .exit)) at r (decimal n) ⌝ }
+{
+    if n < 10000 {
+        return put_short(out, at, n);
+    }
+    let high = put_short(out, at, n / 10000);
+    put_four(out, high, n % 10000)
 }
 
 // A number.
-pub(crate) fn put_number(t: Text, n: u32) -> Text
-    requires { ⌜ t .len + 10 ≤ room ⌝ }
-    ensures { λ r. ⌜ Grows t r (decimal n) × (r .len ≤ t .len + 10) ⌝ }
+pub(crate) fn put_number(out: &mut [u8], at: usize, n: u32) -> usize
+    requires { ⌜ at + length (decimal n) ≤ length (now out) ⌝ }
+    ensures { λ r. ⌜ Puts (now (out .entry)) (now (out .exit)) at r (decimal n) ⌝ }
 {
-    put_digits(t, n, 10)
+    if n < 10000 {
+        return put_short(out, at, n);
+    }
+    let high = put_long(out, at, n / 10000);
+    put_four(out, high, n % 10000)
 }
 
-// A tab and a number.
-pub(crate) fn put_tabbed(t: Text, n: u16) -> Text
-    requires { ⌜ t .len + 6 ≤ room ⌝ }
-    ensures { λ r. ⌜ Grows t r (tabbed n) × (r .len ≤ t .len + 6) ⌝ }
+// A tab and a number, most often of one digit.
+pub(crate) fn put_tabbed(out: &mut [u8], at: usize, n: u16) -> usize
+    requires { ⌜ at + length (tabbed n) ≤ length (now out) ⌝ }
+    ensures { λ r. ⌜ Puts (now (out .entry)) (now (out .exit)) at r (tabbed n) ⌝ }
 {
-    put_digits(put(t, b'\t'), n as u32, 10)
+    out[at] = b'\t';
+    if n < 10 {
+        out[at + 1] = (48 + n) as u8;
+        return at + 2;
+    }
+    put_long(out, at + 1, n as u32)
+}
+
+// How many digits a number below 10,000 has.
+fn short_width(n: u32) -> usize
+    requires { ⌜ n < 10000 ⌝ }
+    ensures { λ r. ⌜ r ≡ length (decimal n) ⌝ }
+{
+    if n < 10 {
+        return 1;
+    }
+    if n < 100 {
+        return 2;
+    }
+    if n < 1000 {
+        return 3;
+    }
+    4
+}
+
+// How many digits a number has.
+pub(crate) fn width(n: u32) -> usize
+    ensures { λ r. ⌜ (r ≡ length (decimal n)) × (r ≤ 10) ⌝ }
+{
+    if n < 10000 {
+        return short_width(n);
+    }
+    if n < 100000000 {
+        return short_width(n / 10000) + 4;
+    }
+    short_width(n / 100000000) + 8
+}
+
+// How many bytes a tab and a number are.
+pub(crate) fn tabbed_width(n: u16) -> usize
+    ensures { λ r. ⌜ (r ≡ length (tabbed n)) × (r ≤ 6) ⌝ }
+{
+    width(n as u32) + 1
 }

@@ -27,4 +27,22 @@ impl IssuingUnit {
             unit: IssuingUnit { counter },
         }
     }
+
+    // The same of a unit that is lent: the ticket is handed out, and the unit is left moved on by one.
+    pub fn advance(&mut self) -> Ticket
+        ensures { λ r. ⌜ (r ≡ issue (now (self .entry)) .ticket) × (now (self .exit) ≡ issue (now (self .entry)) .unit) ⌝ }
+    {
+        let issued = (*self).issue();
+        *self = issued.unit;
+        issued.ticket
+    }
+}
+
+// The unit at a counter is made and lent for one ticket: the ticket, and the unit as it is left.
+pub fn take(counter: Ticket) -> Issued
+    ensures { λ r. ⌜ r ≡ issue (record { counter = counter }) ⌝ }
+{
+    let mut unit = IssuingUnit { counter };
+    let ticket = unit.advance();
+    Issued { ticket, unit }
 }

@@ -9,6 +9,7 @@ mod order;
 
 pub use issue::Issued;
 pub use issue::IssuingUnit;
+pub use issue::take;
 pub use kinds::CoreNo;
 pub use kinds::Grant;
 pub use kinds::Ticket;

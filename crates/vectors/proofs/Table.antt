@@ -4,9 +4,12 @@ use Rattle.ticket.specs.Order.{behind, topBit, after}
 use Rattle.block.specs.Fold.{upTo}
 use Rattle.block.specs.Sound.{coreSound, unitSound, sound}
 use Rattle.block.specs.Steps.{onSound, step}
+use Rattle.lines.specs.Number.{scan, digits}
+use Rattle.lines.specs.Reading.{ending}
+use Rattle.translate.specs.Call.{lines}
 use Rattle.vectors.specs.Table.{table, requestAt, Every}
 
 pub every-row : Every table
-unfolding behind topBit after upTo coreSound unitSound sound onSound step requestAt
+unfolding behind topBit after upTo coreSound unitSound sound onSound step requestAt lines ending scan digits
 every-row =
-    (refl, (refl, (refl, (refl, (refl, (refl, (refl, (refl, (refl, (refl, (refl, (refl, (refl, (refl, tt))))))))))))))
+    (refl, (refl, (refl, (refl, (refl, (refl, (refl, (refl, (refl, (refl, (refl, (refl, (refl, (refl, ((refl, refl, refl), tt)))))))))))))))

@@ -1,27 +1,28 @@
--- `lines::writing::write_expected` meets its contract: the expected line, copied whole or not at all.
+-- `lines::writing::write_expected` meets its contract: the line, put whole where there is room for it.
 use borrow.Author.Needs.{needs}
 use Rattle.lines.specs.Writing.{expectedBytes}
-use Rattle.lines.proofs.Growth.{written}
+use Rattle.lines.proofs.Pasting.{written, roomy, refused}
 use Rattle.lines.proofs.writing.write_expected.Statement.{statement}
 use Rattle.lines.proofs.writing.write_expected.Tie as tie
 
-expected-text-requires : tie.Need-expected-text-requires
-expected-text-requires c κs = search needs
+expected-fits-requires : tie.Need-expected-fits-requires
+expected-fits-requires c κs = search needs
 
-copy-into-requires : tie.Need-copy-into-requires
-copy-into-requires c κs = search needs
+put-expected-requires : tie.Need-put-expected-requires
+put-expected-requires c κs = search roomy
 
 same-length : tie.Need-same-length
 same-length c = search needs
 
 returns : tie.Need-returns
-returns c =
-    let a = c .before .before .before .before .before .before .args in
-    let copied = c .before .before .copy-into in
-    let made = c .before .before .before .expected-text in
-    written (a .out .now) (copied .last .0) (a .at) (made .result) (expectedBytes (a .step) (a .answer) (a .ticket) (a .grants))
-    (copied .result) (made .ensures) (copied .ensures)
+returns c = written (c .before .before .put-expected .ensures)
+
+returns-2 : tie.Need-returns-2
+returns-2 c =
+    let a = c .before .before .before .args in
+    let asked = c .before .expected-fits in
+    refused (a .out .now) (a .at) (expectedBytes (a .step) (a .answer) (a .ticket) (a .grants)) (asked .result) (asked .ensures) (c .if1 .left)
 
 pub write-expected-spec : {M : Type 1} → statement M
 write-expected-spec =
-    tie.close (tie.spec expected-text-requires copy-into-requires same-length returns)
+    tie.close (tie.spec expected-fits-requires put-expected-requires same-length returns returns-2)

@@ -1,68 +1,104 @@
--- `lines::writing::write_headed` meets its contract: the case that `in_range` says, and in it the header's line, copied whole or
--- not at all.
+-- `lines::writing::write_headed` meets its contract: 20 where `in_range` says so, and otherwise the header, put whole where there is
+-- room for it.
 use borrow.Author.Needs.{needs}
-use Prim.Native.Nat.{ℕ}
-use mathlib.Core.Bool.{Bool, true, false}
+use Prim.Native.Nat.{ℕ, _+_, _≤_}
+use mathlib.Core.Bool.{Bool, true, false, not}
 use mathlib.Core.List.{List}
-use mathlib.Core.Path.{_≡_, sym, _∙_}
+use mathlib.Core.Path.{_≡_, refl, sym, _∙_, ap}
+use lib.Dec.{leb}
+use lib.ListN.{length}
 use Rattle.ticket.specs.declared.kinds.Ticket.{Ticket}
+use Rattle.block.proofs.Bools.{not-true-false}
 use Rattle.block.specs.Build.{inRange}
 use Rattle.block.specs.declared.table.Counts.{Counts}
-use Rattle.lines.specs.Text.{shown, Line}
-use Rattle.lines.specs.Writing.{headerBytes, wrote, left, wroteHeader, leftHeader}
-use Rattle.lines.specs.declared.text.Text.{Text}
-use Rattle.lines.specs.declared.writing.Written.the-variants.{OutOfRange}
-use Rattle.lines.specs.declared.writing.Written.{Written}
-use Rattle.lines.proofs.Growth.{written}
+use Rattle.lines.specs.Bytes.{letterT}
+use Rattle.lines.specs.Text.{Puts}
+use Rattle.lines.specs.Writing.{headerBytes, wroteHeader, leftHeader}
+use Rattle.lines.specs.declared.writing.Written.the-variants.{Next, OutOfRange, NoRoom}
+use Rattle.lines.proofs.Pasting.{written, roomy, refused}
 use Rattle.lines.proofs.writing.write_headed.Statement.{statement}
 use Rattle.lines.proofs.writing.write_headed.Tie as tie
 
-module _ (out : List ℕ) (at letter : ℕ) (c : Counts) (n : Ticket) (b : Bool) (says : b ≡ inRange c) where
-  inside :
-      (o : List ℕ) (t : Text) (w : Written) →
-      b ≡ true →
-      Line t (headerBytes letter c n) →
-      (w ≡ wrote out at (shown t)) × (o ≡ left out at (shown t)) →
-      (w ≡ wroteHeader out at letter c n) × (o ≡ leftHeader out at letter c n)
-  inside o t w e l h = rw (sym says ∙ e) (written out o at t (headerBytes letter c n) w l h)
+not-false-true : (t : Bool) → not t ≡ false → t ≡ true
+not-false-true true e = refl
+not-false-true false e = sym e
 
-  outside : b ≡ false → (OutOfRange ≡ wroteHeader out at letter c n) × (out ≡ leftHeader out at letter c n)
-  outside e = (rw (sym says ∙ e), rw (sym says ∙ e))
+module _ (o : List ℕ) (at letter : ℕ) (c : Counts) (n : Ticket) (t : Bool) (asked : t ≡ inRange c) where
+  outside : t ≡ false → (OutOfRange ≡ wroteHeader o at letter c n) × (o ≡ leftHeader o at letter c n)
+  outside e = (rw (sym asked ∙ e), rw (sym asked ∙ e))
+
+  module _ (inside : t ≡ true) where
+    put : (m : List ℕ) (q : ℕ) → Puts o m at q (headerBytes letter c n) → (Next q ≡ wroteHeader o at letter c n) × (m ≡ leftHeader o at letter c n)
+    put m q a = rw (sym asked ∙ inside) (written a)
+
+    -- the letter does not tell in the length
+    module _ (b : Bool) (w : ℕ) (wide : w ≡ length (headerBytes letterT c n)) (says : b ≡ leb (at + w) (length o)) where
+      exact : b ≡ leb (at + length (headerBytes letter c n)) (length o)
+      exact = says ∙ ap (λ (k : ℕ). leb (at + k) (length o)) wide
+
+      none : b ≡ false → (NoRoom ≡ wroteHeader o at letter c n) × (o ≡ leftHeader o at letter c n)
+      none e = rw (sym asked ∙ inside) (refused o at (headerBytes letter c n) b exact e)
+
+      room : b ≡ true → at + length (headerBytes letter c n) ≤ length o
+      room e = roomy o at (headerBytes letter c n) b exact e
 
 in-range-requires : tie.Need-in-range-requires
 in-range-requires c κs = search needs
 
-header-text-requires : tie.Need-header-text-requires
-header-text-requires c κs = search needs
+returns : tie.Need-returns
+returns c =
+    let a = c .before .before .before .args in
+    let asked = c .before .in-range in
+    outside (a .out .now) (a .at) (a .letter) (a .counts) (a .counter) (asked .result) (asked .ensures)
+    (not-true-false (asked .result) (c .if1 .taken))
 
-copy-into-requires : tie.Need-copy-into-requires
-copy-into-requires c κs = search needs
+header-width-requires : tie.Need-header-width-requires
+header-width-requires c κs = search needs
+
+has-room-requires : tie.Need-has-room-requires
+has-room-requires c κs = search needs
+
+put-header-requires : tie.Need-put-header-requires
+put-header-requires c κs =
+    let a = c .before .before .before .before .before .before .before .args in
+    let asked = c .before .before .before .before .before .in-range in
+    let wide = c .before .before .before .header-width in
+    let fits = c .before .before .has-room in
+    room (a .out .now) (a .at) (a .letter) (a .counts) (a .counter) (asked .result) (asked .ensures)
+    (not-false-true (asked .result) (c .before .before .before .before .if1 .left)) (fits .result)
+    (wide .result) (wide .ensures) (fits .ensures) (c .before .if2 .taken)
 
 same-length : tie.Need-same-length
 same-length c = search needs
 
-returns : tie.Need-returns
-returns c =
-    let a = c .before .before .before .before .before .before .before .before .args in
-    let asked = c .before .before .before .before .before .before .in-range in
-    let copied = c .before .before .copy-into in
-    let made = c .before .before .before .header-text in
-    inside (a .out .now) (a .at) (a .letter) (a .counts) (a .counter) (asked .result) (asked .ensures) (copied .last .0)
-    (made .result) (copied .result) (c .before .before .before .before .before .if1 .taken) (made .ensures) (copied .ensures)
-
 returns-2 : tie.Need-returns-2
 returns-2 c =
-    let a = c .before .before .before .args in
-    let asked = c .before .in-range in
-    outside (a .out .now) (a .at) (a .letter) (a .counts) (a .counter) (asked .result) (asked .ensures) (c .if1 .left)
+    let a = c .before .before .before .before .before .before .before .before .before .before .args in
+    let asked = c .before .before .before .before .before .before .before .before .in-range in
+    let done = c .before .before .put-header in
+    put (a .out .now) (a .at) (a .letter) (a .counts) (a .counter) (asked .result) (asked .ensures)
+    (not-false-true (asked .result) (c .before .before .before .before .before .before .before .if1 .left)) (done .last .0)
+    (done .result) (done .ensures)
+
+returns-3 : tie.Need-returns-3
+returns-3 c =
+    let a = c .before .before .before .before .before .before .args in
+    let asked = c .before .before .before .before .in-range in
+    let wide = c .before .before .header-width in
+    let fits = c .before .has-room in
+    none (a .out .now) (a .at) (a .letter) (a .counts) (a .counter) (asked .result) (asked .ensures)
+    (not-false-true (asked .result) (c .before .before .before .if1 .left)) (fits .result)
+    (wide .result) (wide .ensures) (fits .ensures) (c .if2 .left)
 
 pub write-headed-spec : {M : Type 1} → statement M
 write-headed-spec =
     tie.close
     (tie.spec
     in-range-requires
-    header-text-requires
-    copy-into-requires
-    same-length
     returns
-    returns-2)
+    header-width-requires
+    has-room-requires
+    put-header-requires
+    same-length
+    returns-2
+    returns-3)

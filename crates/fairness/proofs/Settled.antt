@@ -1,0 +1,114 @@
+-- What settling does to a unit: it is settled as it was before the others. Its registers keep their tickets and flags, and the one
+-- flag that is set is that of the core which is due.
+use Prim.Native.Nat.{ℕ, _≤_, _<_}
+use mathlib.Core.Bool.{Bool, true, false, cond}
+use mathlib.Core.List.{[]}
+use mathlib.Core.Logic.{_⊎_, inl, inr, _≢_}
+use mathlib.Core.Path.{_≡_, refl, sym, _∙_, ap, subst}
+use native.Mathlib.Nat.{not-suc-le-zero}
+use native.Mathlib.Omega.{arith}
+use lib.Dec.{eqb}
+use lib.ListN.{set}
+use lib.Seq.{getD-set-same, getD-set-other}
+use borrow.Author.Tests.{eqb-true, eq-eqb}
+use Rattle.ticket.specs.declared.kinds.CoreNo.{CoreNo}
+use Rattle.block.specs.Table.{units, coreNo, blank, flagged, unitOf, registerIn, registerOf}
+use Rattle.block.specs.Settle.{flags, next, give, settleAt, settleNext, settle}
+use Rattle.block.specs.declared.table.Register.{Register}
+use Rattle.block.specs.declared.table.LockUnit.{LockUnit}
+use Rattle.block.specs.declared.table.Table.{Table}
+use Rattle.block.specs.declared.settle.Best.{Best}
+use Rattle.block.specs.declared.settle.Best.the-variants.{Nobody, Core as Won}
+use Rattle.block.proofs.Access.{Shaped, same-or-not, unit-same}
+use Rattle.block.proofs.Along.{to-last, along}
+use Rattle.block.proofs.Picking.{next-won}
+use Rattle.block.proofs.Touching.{settleAt-unit}
+use Rattle.laws.specs.Granting.{winner, Due}
+use Rattle.laws.proofs.Settling.{Kept, settleAt-shaped, settleAt-keeps}
+
+-- a unit after its winner got the flag
+abbrev given : LockUnit → Best → LockUnit
+given x Nobody = x
+given x (Won k n) = record { registers = set (x .registers) (k .0) (flagged (registerIn x (k .0))) }
+
+module _ (t : Table) (u : ℕ) (s : Shaped t) (h : u < units) where
+  settled-here : unitOf (settleAt t u .table) u ≡ given (unitOf t u) (winner (unitOf t u))
+  settled-here = go (eqb (flags (unitOf t u)) 0) (next (unitOf t u))
+    where
+      go :
+          (b : Bool) (w : Best) →
+          unitOf (cond b (give t u w) (give t u Nobody) .table) u ≡ given (unitOf t u) (cond b w Nobody)
+      go true Nobody = refl
+      go true (Won k n) = unit-same t u _ s h
+      go false w = refl
+
+-- after the units below n
+record Turned (t : Table) (n : ℕ) (z : Table) : Type 0 where
+  shaped : Shaped z
+  ahead : (v : ℕ) → n ≤ v → unitOf z v ≡ unitOf t v
+  behind : (v : ℕ) → v < n → unitOf z v ≡ given (unitOf t v) (winner (unitOf t v))
+  keeps : (v j : ℕ) → Kept (registerOf t v j) (registerOf z v j)
+
+module _ (t : Table) (s : Shaped t) where
+  turned : Turned t units (settle t .table)
+  turned =
+      along (λ n z. Turned t n (z .table)) settleNext (record { table = t; grants = [] })
+      (record {
+        shaped = s;
+        ahead = λ v h. refl;
+        behind = λ v h. absurd (not-suc-le-zero h);
+        keeps = λ v j. record { ticket = refl; valid = refl; flag = λ e. e };
+      })
+      units
+      (λ n h z m. record {
+        shaped = settleAt-shaped (z .table) n (m .shaped) h;
+        ahead = λ v l. settleAt-unit (z .table) n v (λ e. omega arith) ∙ m .ahead v (omega arith);
+        behind =
+            to-last (λ v. unitOf (settleAt (z .table) n .table) v ≡ given (unitOf t v) (winner (unitOf t v))) n
+            (λ v l. settleAt-unit (z .table) n v (λ e. omega arith) ∙ m .behind v l)
+            (settled-here (z .table) n (m .shaped) h ∙ ap (λ (x : LockUnit). given x (winner x)) (m .ahead n (omega arith)));
+        keeps = λ v j.
+            let a = m .keeps v j in
+            let b = settleAt-keeps (z .table) n (m .shaped) h v j in
+            record { ticket = b .ticket ∙ a .ticket; valid = b .valid ∙ a .valid; flag = λ e. b .flag (a .flag e) };
+      })
+
+  pub settled-keeps : (u j : ℕ) → Kept (registerOf t u j) (registerOf (settle t .table) u j)
+  settled-keeps = turned .keeps
+
+  module _ (u : ℕ) (h : u < units) where
+    -- a flag that is set was set before, or its core was due
+    pub settled-new :
+        (j : ℕ) →
+        registerOf (settle t .table) u j .flag ≡ true →
+        (registerOf t u j .flag ≡ true) ⊎ Due (unitOf t u) (coreNo j)
+    settled-new j e =
+        go (eqb (flags x) 0) refl (next x) refl (subst (λ (y : LockUnit). registerIn y j .flag ≡ true) (turned .behind u h) e)
+      where
+        x : LockUnit
+        x = unitOf t u
+
+        go :
+            (b : Bool) → eqb (flags x) 0 ≡ b →
+            (w : Best) → next x ≡ w →
+            registerIn (given x (cond b w Nobody)) j .flag ≡ true →
+            (registerIn x j .flag ≡ true) ⊎ Due x (coreNo j)
+        go true p Nobody q f = inl f
+        go true p (Won k n) q f = pick (same-or-not j (k .0))
+          where
+            pick : (j ≡ k .0) ⊎ (j ≢ k .0) → (registerIn x j .flag ≡ true) ⊎ Due x (coreNo j)
+            pick (inl e) =
+                inr (record { free = eqb-true (flags x) 0 p; ticket = n; oldest = q ∙ ap (λ (i : ℕ). Won (coreNo i) n) (sym e) })
+            pick (inr d) =
+                let same = getD-set-other (x .registers) (k .0) j (flagged (registerIn x (k .0))) blank d in
+                inl (ap (λ (r : Register). r .flag) (sym same) ∙ f)
+        go false p w q f = inl f
+
+    pub settled-due : (k : CoreNo) → Due (unitOf t u) k → registerOf (settle t .table) u (k .0) .flag ≡ true
+    settled-due k d =
+        let x = unitOf t u in
+        let w : winner x ≡ Won k (d .ticket) = simp (eq-eqb (flags x) 0 (d .free), d .oldest) in
+        let small = next-won x k (d .ticket) (d .oldest) .2 in
+        ap (λ (y : LockUnit). registerIn y (k .0) .flag) (turned .behind u h ∙ ap (given x) w) ∙
+        ap (λ (r : Register). r .flag)
+        (getD-set-same (x .registers) (k .0) (flagged (registerIn x (k .0))) blank (rw (s .registers-long u h) small))

@@ -1,0 +1,301 @@
+-- A core in its stretch. From its entry on it waits at the unit, with its register there valid and its flag clear, and keeps its issue
+-- number: its own steps are refused or leave the table, and the steps of others leave it. Every live ticket with an earlier number was
+-- live at its entry, as new numbers come after all others.
+use Prim.Native.Nat.{ℕ, _<_}
+use mathlib.Core.Bool.{Bool, true, false, _&&_, _||_, not}
+use mathlib.Core.List.{List, [], _∷_}
+use mathlib.Core.Logic.{_⊎_, inl, inr, ⊎-elim, _≢_}
+use mathlib.Core.Path.{_≡_, refl, sym, _∙_, ap}
+use native.Mathlib.Omega.{arith}
+use lib.Dec.{eqb, ltb}
+use borrow.Author.Tests.{eqb-true, eq-eqb, ltb-true, lt-ltb}
+use Rattle.ticket.specs.Kinds.{ticket, grant}
+use Rattle.ticket.specs.Order.{after}
+use Rattle.block.specs.State.{isIdle, waits, holds, twoStage}
+use Rattle.block.specs.Table.{cores, units, coreNo, unitNo, standing, coreOf, unitOf, registerOf, withCounter}
+use Rattle.block.specs.Steps.{step}
+use Rattle.block.specs.declared.table.Core.{Core}
+use Rattle.block.specs.declared.table.Register.{Register}
+use Rattle.block.specs.declared.table.State.{State}
+use Rattle.block.specs.declared.table.State.the-variants.{Waiting}
+use Rattle.block.specs.declared.table.Table.{Table}
+use Rattle.block.specs.declared.answer.Step.{Step}
+use Rattle.block.specs.declared.answer.Step.the-variants.{R, N, P, I, C, L}
+use Rattle.block.proofs.Access.{same-or-not, register-same, shaped-counter}
+use Rattle.block.proofs.Allows.{may-request, may-nest, may-come-back, may-release}
+use Rattle.block.proofs.Answering.{request-in, come-back-in}
+use Rattle.block.proofs.Bools.{and-left, and-right, and-both, not-true-false, clash}
+use Rattle.block.proofs.Folds.{at-some}
+use Rattle.block.proofs.Parts.{whole}
+use Rattle.block.proofs.Standing.{units-few}
+use Rattle.laws.specs.Granting.{listed, Due}
+use Rattle.laws.proofs.Granting.{moves, settled-exactly}
+use Rattle.laws.proofs.Keeping.{Good}
+use Rattle.laws.proofs.Settling.{settle-same}
+use Rattle.fairness.specs.Run.{Place, whose, done, requests, interrupts, onward, after as afterAll}
+use Rattle.fairness.specs.Stretch.{grants, gives, entersAt, enters, leaves, stretch, isEarlier, among}
+use Rattle.fairness.proofs.Counting.{at-gives}
+use Rattle.fairness.proofs.Settled.{settled-new}
+use Rattle.fairness.proofs.Effects.{Accepted, judged, done-accepted, interrupt-done, spared, poll-cases, requested-core, returned-core}
+use Rattle.fairness.proofs.Invariant.{Live, Numbered, live-small, stepped-core, issue-kept, numbered-onward, live-onward}
+
+pub or-none : (a b : Bool) → (a || b) ≡ false → (a ≡ false) × (b ≡ false)
+or-none true b e = absurd (clash refl e)
+or-none false b e = (refl, e)
+
+-- two states of one core
+states : {z x y : State} (f : State → Bool) → z ≡ x → z ≡ y → f x ≡ true → f y ≡ false → ⊥
+states f p q a b = clash (ap f p ∙ a) (ap f q ∙ b)
+
+-- what the step does at unit u, as seen by a core that it does not grant
+module _ (t : Table) (g : Good t) (z : Step) (a : Accepted t z) where
+  pub stepped-counts : step t z .table .counts ≡ t .counts
+  stepped-counts = ap (λ (x : Table). x .counts) (a .table) ∙ settle-same (moves t z) .1 ∙ spared t g z (a .may) .counts
+
+  pub due-gives : (u k : ℕ) → u < units → Due (unitOf (moves t z) u) (coreNo k) → gives u k (listed (step t z .grants)) ≡ true
+  due-gives u k h d =
+      at-gives u k (listed (step t z .grants))
+      (rw (a .grants) (settled-exactly (moves t z) (grant (unitNo u) (coreNo k)) .1 (record { place = h; due = d })))
+
+  stays-clear :
+      (u k : ℕ) →
+      u < units →
+      registerOf (moves t z) u k .flag ≡ false →
+      gives u k (listed (step t z .grants)) ≡ false →
+      registerOf (step t z .table) u k .flag ≡ false
+  stays-clear u k h clear ungranted = go (registerOf (step t z .table) u k .flag) refl
+    where
+      go : (b : Bool) → registerOf (step t z .table) u k .flag ≡ b → registerOf (step t z .table) u k .flag ≡ false
+      go false e = e
+      go true e =
+          ⊎-elim (λ f. absurd (clash f clear)) (λ d. absurd (clash (due-gives u k h d) ungranted))
+          (settled-new (moves t z) (a .shaped) u h k (rw (a .table) at e))
+
+-- e is the place after the entry
+pub record Stands (e : Place) (c k u : ℕ) (p : Place) : Type 0 where
+  pub numbered : Numbered c p
+  pub state : coreOf (p .table) k .state ≡ Waiting
+  pub first : coreOf (p .table) k .first .0 ≡ u
+  pub clear : registerOf (p .table) u k .flag ≡ false
+  pub class : u < p .table .counts .first
+  pub issue : p .issue k ≡ e .issue k
+  pub earlier : (j : ℕ) → Live (p .table) j → p .issue j < e .issue k → among e k (p .issue j) ≡ true
+
+pub first-class : (t : Table) → Good t → (u : ℕ) → u < t .counts .first → u < units
+first-class t g u h = omega (arith, units-few (t .counts) (g .sound .counts))
+
+-- The entry
+
+-- core k waits at u without its flag
+record Entered (k u : ℕ) (m : Table) : Type 0 where
+  state : coreOf m k .state ≡ Waiting
+  first : coreOf m k .first .0 ≡ u
+  clear : registerOf m u k .flag ≡ false
+
+module _ (c : ℕ) (p : Place) (n : Numbered c p) (s : Step) (k u : ℕ) (entry : enters p s k u ≡ true) where
+  abbrev t : Table
+  t = p .table
+
+  record Entering : Type 0 where
+    accepted : done t s ≡ true
+    core : whose s ≡ k
+    at : entersAt t s u ≡ true
+    class : u < t .counts .first
+    ungranted : gives u k (grants p s) ≡ false
+
+  entering : Entering
+  entering =
+      let a = done t s in
+      let b = a && eqb (whose s) k in
+      let d = b && entersAt t s u in
+      let f = d && ltb u (t .counts .first) in
+      let e3 = and-left f _ entry in
+      let e2 = and-left d _ e3 in
+      let e1 = and-left b _ e2 in
+      record {
+        accepted = and-left a _ e1;
+        core = eqb-true (whose s) k (and-right a _ e1);
+        at = and-right b _ e2;
+        class = ltb-true u (t .counts .first) (and-right d _ e3);
+        ungranted = not-true-false (gives u k (grants p s)) (and-right f _ entry);
+      }
+
+  taken : Accepted t s
+  taken = done-accepted t (n .good) s (entering .accepted)
+
+  entered : Entered k u (moves t s)
+  entered = go s (entering .core) (entering .at) taken
+    where
+      go : (s : Step) → whose s ≡ k → entersAt t s u ≡ true → Accepted t s → Entered k u (moves t s)
+      go (R j v) same at a =
+          let q = eqb-true (v .0) u at in
+          let i = request-in t j (whole t (n .good .sound)) v (a .may) in
+          let c' = requested-core t (n .good) j v (a .may) in
+          let t' = withCounter t (ticket (after (t .counter .0))) in
+          let r = register-same t' (v .0) (j .0) (standing (t .counter)) (shaped-counter t _ (n .good .shaped)) (i .1) (i .0) in
+          rw (← same, ← q)
+          (record {
+            state = ap (λ (x : Core). x .state) c';
+            first = ap (λ (x : Core). x .first .0) c';
+            clear = ap (λ (x : Register). x .flag) r;
+          })
+      go (N j v) same at a = absurd (clash at refl)
+      go (P j) same at a = absurd (clash at refl)
+      go (I j) same at a = absurd (clash at refl)
+      go (C j) same at a =
+          let q = eqb-true (coreOf t (j .0) .first .0) u at in
+          let i = come-back-in t j (whole t (n .good .sound)) (a .may) in
+          let c' = returned-core t (n .good) j (a .may) in
+          let b = coreOf t (j .0) in
+          let r = register-same t (b .first .0) (j .0) (standing (b .own)) (n .good .shaped) (i .1) (i .0) in
+          rw (← same, ← q)
+          (record {
+            state = ap (λ (x : Core). x .state) c';
+            first = ap (λ (x : Core). x .first .0) c';
+            clear = ap (λ (x : Register). x .flag) r;
+          })
+      go (L j) same at a = absurd (clash at refl)
+
+  pub stands-entry : Stands (onward p s) c k u (onward p s)
+  stands-entry =
+      let a = taken in
+      let g = n .good in
+      record {
+        numbered = numbered-onward c p n s;
+        state = ap (λ (x : Core). x .state) (stepped-core t s a k) ∙ entered .state;
+        first = ap (λ (x : Core). x .first .0) (stepped-core t s a k) ∙ entered .first;
+        clear = stays-clear t g s a u k (first-class t g u (entering .class)) (entered .clear) (entering .ungranted);
+        class = rw (stepped-counts t g s a) (entering .class);
+        issue = refl;
+        earlier = λ j live less.
+            at-some (λ (i : ℕ). isEarlier (onward p s) k i && eqb (onward p s .issue i) (onward p s .issue j)) cores j
+            (live-small (onward p s .table) (numbered-onward c p n s .good .shaped) j live)
+            (and-both
+            (and-both (ap not live) (lt-ltb (onward p s .issue j) (onward p s .issue k) less))
+            (eq-eqb (onward p s .issue j) (onward p s .issue j) refl));
+      }
+
+-- A later step
+
+-- core k and its register at u are as they were
+pub record Unmoved (t : Table) (k u : ℕ) (m : Table) : Type 0 where
+  pub core : coreOf m k ≡ coreOf t k
+  pub register : registerOf m u k ≡ registerOf t u k
+
+module _ (e : Place) (c k u : ℕ) (p : Place) (w : Stands e c k u p) (z : Step) (on : leaves k u p z ≡ false) where
+  abbrev x : Table
+  x = p .table
+
+  abbrev g : Good x
+  g = w .numbered .good
+
+  pub ungranted : gives u k (grants p z) ≡ false
+  ungranted = or-none (gives u k (grants p z)) _ on .0
+
+  uninterrupted : interrupts x z k ≡ false
+  uninterrupted = or-none (gives u k (grants p z)) _ on .1
+
+  pub place : u < units
+  place = first-class x g u (w .class)
+
+  -- the core cannot request again
+  unasked : requests x z k ≡ false
+  unasked = go z
+    where
+      asked : (z : Step) → requests x z k ≡ true → ⊥
+      asked (R j v) q =
+          let same = eqb-true (j .0) k (and-left (eqb (j .0) k) _ q) in
+          let a = done-accepted x g (R j v) (and-right (eqb (j .0) k) _ q) in
+          states isIdle (rw same at (may-request x j v (a .may) .state)) (w .state) refl refl
+      asked (N j v) q = clash q refl
+      asked (P j) q = clash q refl
+      asked (I j) q = clash q refl
+      asked (C j) q = clash q refl
+      asked (L j) q = clash q refl
+
+      go : (z : Step) → requests x z k ≡ false
+      go z = pick (requests x z k) refl
+        where
+          pick : (b : Bool) → requests x z k ≡ b → requests x z k ≡ false
+          pick true q = absurd (asked z q)
+          pick false q = q
+
+  pub issue-stays : onward p z .issue k ≡ e .issue k
+  issue-stays = issue-kept p z k unasked ∙ w .issue
+
+  pub unmoved : Accepted x z → Unmoved x k u (moves x z)
+  unmoved a = go (same-or-not k (whose z))
+    where
+      own : (z : Step) → k ≡ whose z → Accepted x z → interrupts x z k ≡ false → Unmoved x k u (moves x z)
+      own (R j v) q a i = absurd (states isIdle (rw (← q) at (may-request x j v (a .may) .state)) (w .state) refl refl)
+      own (N j v) q a i = absurd (states holds (rw (← q) at (may-nest x j v (a .may) .state)) (w .state) refl refl)
+      own (P j) q a i =
+          poll-cases x (j .0) (Unmoved x k u)
+          (λ f. absurd (clash (rw (← q) at f) (rw (w .state, w .first) (w .clear))))
+          (λ f two. absurd (clash (rw (← q) at two) (ap twoStage (w .state))))
+          (record { core = refl; register = refl })
+      own (I j) q a i = absurd (clash (and-both (eq-eqb (j .0) k (sym q)) (interrupt-done x g j (a .may))) i)
+      own (C j) q a i = absurd (states waits (w .state) (rw (← q) at (may-come-back x j (a .may) .1)) refl refl)
+      own (L j) q a i =
+          ⊎-elim
+          (λ h. absurd (states holds (rw (← q) at h) (w .state) refl refl))
+          (λ h. absurd (states holds (rw (← q) at h) (w .state) refl refl))
+          (may-release x j (a .may) .1)
+
+      go : (k ≡ whose z) ⊎ (k ≢ whose z) → Unmoved x k u (moves x z)
+      go (inl q) = own z q a uninterrupted
+      go (inr d) = record { core = spared x g z (a .may) .core k d; register = spared x g z (a .may) .register u k d }
+
+  pub stands-onward : Stands e c k u (onward p z)
+  stands-onward =
+      let n = numbered-onward c p (w .numbered) z in
+      ⊎-elim
+      (λ a.
+      record {
+        numbered = n;
+        state = ap (λ (y : Core). y .state) (stepped-core x z a k ∙ unmoved a .core) ∙ w .state;
+        first = ap (λ (y : Core). y .first .0) (stepped-core x z a k ∙ unmoved a .core) ∙ w .first;
+        clear = stays-clear x g z a u k place (ap (λ (r : Register). r .flag) (unmoved a .register) ∙ w .clear) ungranted;
+        class = rw (stepped-counts x g z a) (w .class);
+        issue = issue-stays;
+        earlier = still;
+      })
+      (λ r.
+      record {
+        numbered = n;
+        state = rw (r .table) (w .state);
+        first = rw (r .table) (w .first);
+        clear = rw (r .table) (w .clear);
+        class = rw (r .table) (w .class);
+        issue = issue-stays;
+        earlier = still;
+      })
+      (judged x g z)
+    where
+      still : (j : ℕ) → Live (onward p z .table) j → onward p z .issue j < e .issue k → among e k (onward p z .issue j) ≡ true
+      still j live less = ⊎-elim was new (live-onward c p (w .numbered) z j live)
+        where
+          was : Live x j × (onward p z .issue j ≡ p .issue j) → among e k (onward p z .issue j) ≡ true
+          was q =
+              let same = q .1 in
+              ap (among e k) same ∙ w .earlier j (q .0) (omega arith)
+
+          new : onward p z .issue j ≡ p .issued → among e k (onward p z .issue j) ≡ true
+          new q =
+              let low = w .numbered .low k (ap isIdle (w .state)) in
+              let same = w .issue in
+              absurd (omega arith)
+
+-- All later steps
+
+pub stands-after :
+    (e : Place) (c k u : ℕ) (p : Place) →
+    Stands e c k u p →
+    (more : List Step) →
+    stretch k u p more ≡ true →
+    Stands e c k u (afterAll p more)
+unfolding stretch afterAll
+stands-after e c k u p w [] q = w
+stands-after e c k u p w (z ∷ more) q =
+    let on = not-true-false (leaves k u p z) (and-left (not (leaves k u p z)) _ q) in
+    stands-after e c k u (onward p z) (stands-onward e c k u p w z on) more (and-right (not (leaves k u p z)) _ q)

@@ -1,0 +1,217 @@
+-- Never stuck. The unit where a core stands has a flag. Its core holds all it asked for, or would be granted at its next poll, or waits
+-- at a second-class unit without its flag; that unit has a flag too, and its core can wait nowhere else.
+use Prim.Native.Nat.{ℕ, _≤_, _<_}
+use mathlib.Core.Bool.{Bool, true, false, cond, _&&_}
+use mathlib.Core.Logic.{_⊎_, inl, inr, ⊎-elim}
+use mathlib.Core.Path.{_≡_, refl, _∙_, ap}
+use native.Mathlib.Omega.{arith}
+use lib.Dec.{eqb, ltb}
+use borrow.Author.Tests.{eqb-true, eq-eqb, ne-eqb, ltb-true, lt-leb}
+use Rattle.ticket.specs.declared.kinds.Ticket.{Ticket}
+use Rattle.block.specs.Fold.{some, one}
+use Rattle.block.specs.State.{isIdle, waits, holds, stands, holdsFirst, holdsBoth, twoStage}
+use Rattle.block.specs.Table.{cores, units, coreNo, coreOf, unitOf, registerOf}
+use Rattle.block.specs.Answer.{numberOf}
+use Rattle.block.specs.Settle.{flags}
+use Rattle.block.specs.Sound as S
+use Rattle.block.specs.Parts.{Sound}
+use Rattle.block.specs.Steps.{awaited, granted, notYet, polled, onSound, step}
+use Rattle.block.specs.Verdict.{answered, noCore, mayPoll}
+use Rattle.block.specs.declared.table.Core.{Core}
+use Rattle.block.specs.declared.table.Register.{Register}
+use Rattle.block.specs.declared.table.State.{State}
+use Rattle.block.specs.declared.table.State.the-variants.{Idle, Waiting, Holding, WaitingSecond, HoldingBoth, Away}
+use Rattle.block.specs.declared.table.Table.{Table}
+use Rattle.block.specs.declared.answer.Step.the-variants.{P}
+use Rattle.block.specs.declared.answer.Stepped.{Stepped}
+use Rattle.block.specs.declared.verdict.Verdict.{Verdict}
+use Rattle.block.specs.declared.verdict.Verdict.the-variants.{Allowed}
+use Rattle.block.proofs.Bools.{and-left, and-right, or-cases, clash}
+use Rattle.block.proofs.Folds.{some-at, at-some, some-none, none-count}
+use Rattle.block.proofs.Standing.{first-in, second-after, blank-is}
+use Rattle.laws.proofs.Keeping.{Good}
+use Rattle.laws.proofs.Kept.{names-two}
+use Rattle.fairness.specs.Fair.{NeverStuck}
+use Rattle.fairness.proofs.Effects.{on-good}
+use Rattle.fairness.proofs.Invariant.{Live, live-small, numbered}
+
+-- core j holds all it asked for, or would be granted
+abbrev Goes : Table → ℕ → Type 0
+Goes t j = (holds (coreOf t j .state) ≡ true) ⊎ (numberOf (step t (P (coreNo j)) .answer) ≡ 1)
+
+-- a valid register's unit has a flag
+flag-there :
+    (t : Table) →
+    Sound t →
+    (u k : ℕ) →
+    u < units →
+    k < cores →
+    registerOf t u k .valid ≡ true →
+    (j : ℕ) × (j < cores) × (registerOf t u j .flag ≡ true)
+flag-there t s u k h l v = go (some flag cores) refl
+  where
+    flag : ℕ → Bool
+    flag j = registerOf t u j .flag
+
+    go : (b : Bool) → some flag cores ≡ b → (j : ℕ) × (j < cores) × (registerOf t u j .flag ≡ true)
+    go true e = some-at flag cores e
+    go false e =
+        let none : flags (unitOf t u) ≡ 0 = none-count flag cores (some-none flag cores e) in
+        let any : one (S.anyValid (unitOf t u)) ≡ 1 = ap one (at-some (λ (j : ℕ). registerOf t u j .valid) cores k l v) in
+        let same = eqb-true (flags (unitOf t u)) (one (S.anyValid (unitOf t u))) (s .unit u h .oneFlag) in
+        absurd (omega arith)
+
+shown-valid : (r : Register) (n : Ticket) (held : Bool) → S.shows r n held ≡ true → r .valid ≡ true
+shown-valid r n held e = and-left (r .valid) _ (and-left (r .valid && eqb (r .ticket .0) (n .0)) _ e)
+
+-- where a flag is set the core stands: at its first unit, or at its second
+flag-stands :
+    (c : Core) (u : ℕ) (r : Register) →
+    S.agrees c u r ≡ true →
+    r .flag ≡ true →
+    ((stands (c .state) ≡ true) × (u ≡ c .first .0)) ⊎ ((twoStage (c .state) ≡ true) × (u ≡ c .second .0))
+flag-stands c u r agrees f =
+    go (stands (c .state) && eqb u (c .first .0)) refl (twoStage (c .state) && eqb u (c .second .0)) refl agrees
+  where
+    go :
+        (a : Bool) →
+        (stands (c .state) && eqb u (c .first .0)) ≡ a →
+        (b : Bool) →
+        (twoStage (c .state) && eqb u (c .second .0)) ≡ b →
+        cond a (S.shows r (c .own) (holdsFirst (c .state))) (cond b (S.shows r (c .carried) (holdsBoth (c .state))) (S.isBlank r)) ≡ true →
+        ((stands (c .state) ≡ true) × (u ≡ c .first .0)) ⊎ ((twoStage (c .state) ≡ true) × (u ≡ c .second .0))
+    go true x b y e = inl (and-left (stands (c .state)) _ x, eqb-true u (c .first .0) (and-right (stands (c .state)) _ x))
+    go false x true y e = inr (and-left (twoStage (c .state)) _ y, eqb-true u (c .second .0) (and-right (twoStage (c .state)) _ y))
+    go false x false y e = absurd (clash f (ap (λ (z : Register). z .flag) (blank-is r e)))
+
+module _ (t : Table) (g : Good t) where
+  -- a core that waits with its flag set is answered 1
+  granted-next :
+      (j : ℕ) →
+      waits (coreOf t j .state) ≡ true →
+      Live t j →
+      registerOf t (awaited (coreOf t j)) j .flag ≡ true →
+      numberOf (step t (P (coreNo j)) .answer) ≡ 1
+  unfolding onSound
+  granted-next j w live f =
+      let within = g .sound .core j (live-small t (g .shaped) j live) .within in
+      let in-table = ⊎-elim (λ e. e) (λ e. absurd (clash e live)) (or-cases (ltb j (t .counts .cores)) _ within) in
+      let there : noCore t (coreNo j) ≡ false = lt-leb (t .counts .cores) j (ltb-true j (t .counts .cores) in-table) in
+      let may : mayPoll t (coreNo j) ≡ Allowed = simp (there, w) in
+      ap (λ (x : Stepped). numberOf (x .answer))
+      (on-good t g (P (coreNo j)) ∙ ap (λ (v : Verdict). answered t v (polled t j)) may) ∙
+      ap (λ (b : Bool). numberOf (cond b (granted t j) (notYet t j) .answer)) f
+
+  -- the core of a flag goes, or waits at its second unit
+  flag-goes :
+      (u j : ℕ) →
+      u < units →
+      j < cores →
+      registerOf t u j .flag ≡ true →
+      Goes t j ⊎ ((coreOf t j .state ≡ WaitingSecond) × (registerOf t (coreOf t j .second .0) j .flag ≡ false))
+  flag-goes u j h l f = go (coreOf t j .state) refl (flag-stands (coreOf t j) u (registerOf t u j) (g .sound .unit u h .agrees j l) f)
+    where
+      go :
+          (z : State) →
+          coreOf t j .state ≡ z →
+          ((stands (coreOf t j .state) ≡ true) × (u ≡ coreOf t j .first .0)) ⊎
+          ((twoStage (coreOf t j .state) ≡ true) × (u ≡ coreOf t j .second .0)) →
+          Goes t j ⊎ ((coreOf t j .state ≡ WaitingSecond) × (registerOf t (coreOf t j .second .0) j .flag ≡ false))
+      go Idle e (inl a) = absurd (clash (a .0) (ap stands e))
+      go Idle e (inr a) = absurd (clash (a .0) (ap twoStage e))
+      go Waiting e (inl a) = inl (inr (granted-next j (ap waits e) (ap isIdle e) (simp e (rw (a .1) at f))))
+      go Waiting e (inr a) = absurd (clash (a .0) (ap twoStage e))
+      go Holding e a = inl (inl (ap holds e))
+      go WaitingSecond e a = second (registerOf t (coreOf t j .second .0) j .flag) refl
+        where
+          second :
+              (b : Bool) →
+              registerOf t (coreOf t j .second .0) j .flag ≡ b →
+              Goes t j ⊎ ((coreOf t j .state ≡ WaitingSecond) × (registerOf t (coreOf t j .second .0) j .flag ≡ false))
+          second true q = inl (inr (granted-next j (ap waits e) (ap isIdle e) (simp e q)))
+          second false q = inr (e, q)
+      go HoldingBoth e a = inl (inl (ap holds e))
+      go Away e (inl a) = absurd (clash (a .0) (ap stands e))
+      go Away e (inr a) = absurd (clash (a .0) (ap twoStage e))
+
+  -- whoever has the flag of the second unit that a core waits at goes
+  second-goes : (j : ℕ) → j < cores → coreOf t j .state ≡ WaitingSecond → (i : ℕ) × Goes t i
+  second-goes j l e =
+      let c = coreOf t j in
+      let names = names-two t c (simp e at (g .sound .core j l .named)) in
+      let h = second-after t (g .sound) j l (ap isIdle e) (ap twoStage e) .1 in
+      let apart = ne-eqb (c .second .0) (c .first .0) (λ q. omega arith) in
+      let agrees = g .sound .unit (c .second .0) h .agrees j l in
+      let v = shown-valid (registerOf t (c .second .0) j) (c .carried) false
+      (simp (e, apart, eq-eqb (c .second .0) (c .second .0) refl) at agrees) in
+      let w = flag-there t (g .sound) (c .second .0) j h l v in
+      let i = w .0 in
+      (i, other i (w .1) (c .second .0) h (names .low) (w .2) (flag-goes (c .second .0) i h (w .1) (w .2)))
+    where
+      -- a core with a second unit holds a first-class one, so a second-class unit whose flag it has is its second
+      nowhere :
+          (i : ℕ) →
+          i < cores →
+          (u : ℕ) →
+          u < units →
+          t .counts .first ≤ u →
+          registerOf t u i .flag ≡ true →
+          coreOf t i .state ≡ WaitingSecond →
+          registerOf t (coreOf t i .second .0) i .flag ≡ false →
+          ⊥
+      nowhere i m u h low f e clear =
+          ⊎-elim first second (flag-stands (coreOf t i) u (registerOf t u i) (g .sound .unit u h .agrees i m) f)
+        where
+          first : (stands (coreOf t i .state) ≡ true) × (u ≡ coreOf t i .first .0) → ⊥
+          first a =
+              let names = names-two t (coreOf t i) (simp e at (g .sound .core i m .named)) in
+              let q = a .1 in
+              omega arith
+
+          second : (twoStage (coreOf t i .state) ≡ true) × (u ≡ coreOf t i .second .0) → ⊥
+          second a = clash (rw (a .1) at f) clear
+
+      other :
+          (i : ℕ) →
+          i < cores →
+          (u : ℕ) →
+          u < units →
+          t .counts .first ≤ u →
+          registerOf t u i .flag ≡ true →
+          Goes t i ⊎ ((coreOf t i .state ≡ WaitingSecond) × (registerOf t (coreOf t i .second .0) i .flag ≡ false)) →
+          Goes t i
+      other i m u h low f (inl x) = x
+      other i m u h low f (inr x) = absurd (nowhere i m u h low f (x .0) (x .1))
+
+  somebody-goes : (k : ℕ) → stands (coreOf t k .state) ≡ true → (j : ℕ) × Goes t j
+  somebody-goes k = go (coreOf t k .state) refl
+    where
+      found :
+          (i : ℕ) →
+          i < cores →
+          Goes t i ⊎ ((coreOf t i .state ≡ WaitingSecond) × (registerOf t (coreOf t i .second .0) i .flag ≡ false)) →
+          (j : ℕ) × Goes t j
+      found i l (inl x) = (i, x)
+      found i l (inr x) = second-goes i l (x .0)
+
+      waiting : coreOf t k .state ≡ Waiting → (j : ℕ) × Goes t j
+      waiting e =
+          let c = coreOf t k in
+          let l = live-small t (g .shaped) k (ap isIdle e) in
+          let h = first-in t (g .sound) k l (ap isIdle e) in
+          let agrees = g .sound .unit (c .first .0) h .agrees k l in
+          let v = shown-valid (registerOf t (c .first .0) k) (c .own) false
+          (simp (e, eq-eqb (c .first .0) (c .first .0) refl) at agrees) in
+          let w = flag-there t (g .sound) (c .first .0) k h l v in
+          found (w .0) (w .1) (flag-goes (c .first .0) (w .0) h (w .1) (w .2))
+
+      go : (z : State) → coreOf t k .state ≡ z → stands z ≡ true → (j : ℕ) × Goes t j
+      go Idle e s = absurd (clash s refl)
+      go Waiting e s = waiting e
+      go Holding e s = (k, inl (ap holds e))
+      go WaitingSecond e s = second-goes k (live-small t (g .shaped) k (ap isIdle e)) e
+      go HoldingBoth e s = (k, inl (ap holds e))
+      go Away e s = absurd (clash s refl)
+
+pub never-stuck : NeverStuck
+never-stuck p k r s = let n = numbered p r in somebody-goes (p .table) (n .1 .good) k s

@@ -1,0 +1,81 @@
+-- A run: a good header's fresh table and any list of steps, accepted or refused. "Its `earlier` is the order of requests in the run,
+-- never the comparison": the n-th accepted request, from 0, has issue number n, which never wraps.
+use Prim.Native.Nat.{ℕ, _+_, _<_}
+use mathlib.Core.Bool.{Bool, true, false, cond, _&&_}
+use mathlib.Core.List.{List, [], _∷_}
+use mathlib.Core.Path.{_≡_}
+use lib.Dec.{eqb}
+use Rattle.ticket.specs.Order.{circle}
+use Rattle.ticket.specs.declared.kinds.Ticket.{Ticket}
+use Rattle.block.specs.Fold.{one}
+use Rattle.block.specs.Answer.{numberOf}
+use Rattle.block.specs.Build.{inRange, fresh}
+use Rattle.block.specs.Steps.{step}
+use Rattle.block.specs.declared.table.Counts.{Counts}
+use Rattle.block.specs.declared.table.Table.{Table}
+use Rattle.block.specs.declared.answer.Step.{Step}
+use Rattle.block.specs.declared.answer.Step.the-variants.{R, N, P, I, C, L}
+
+-- the core that a step names
+abbrev pub whose : Step → ℕ
+whose (R k u) = k .0
+whose (N k u) = k .0
+whose (P k) = k .0
+whose (I k) = k .0
+whose (C k) = k .0
+whose (L k) = k .0
+
+-- answered 0
+abbrev pub done : Table → Step → Bool
+done t s = eqb (numberOf (step t s .answer)) 0
+
+-- the step is an accepted request of core j
+abbrev pub requests : Table → Step → ℕ → Bool
+requests t (R k u) j = eqb (k .0) j && done t (R k u)
+requests t (N k u) j = false
+requests t (P k) j = false
+requests t (I k) j = false
+requests t (C k) j = false
+requests t (L k) j = false
+
+-- the step is an accepted interrupt of core j
+abbrev pub interrupts : Table → Step → ℕ → Bool
+interrupts t (R k u) j = false
+interrupts t (N k u) j = false
+interrupts t (P k) j = false
+interrupts t (I k) j = eqb (k .0) j && done t (I k)
+interrupts t (C k) j = false
+interrupts t (L k) j = false
+
+-- where a run stands: the table, how many requests were accepted, and for each core the issue number of its last accepted request,
+-- which is that of its ticket while it is live
+pub record Place : Type 0 where
+  pub table : Table
+  pub issued : ℕ
+  pub issue : ℕ → ℕ
+
+-- one step on: an accepted request gives its core the next issue number
+abbrev pub onward : Place → Step → Place
+onward p s =
+    record {
+      table = step (p .table) s .table;
+      issued = p .issued + one (requests (p .table) s (whose s));
+      issue = λ (j : ℕ). cond (requests (p .table) s j) (p .issued) (p .issue j);
+    }
+
+-- the place after a list of steps, accepted or refused
+unfoldable pub after : Place → List Step → Place
+after p [] = p
+after p (s ∷ more) = after (onward p s) more
+
+abbrev pub start : Counts → Ticket → Place
+start c n = record { table = fresh c n; issued = 0; issue = λ (j : ℕ). 0 }
+
+-- "Cores 1 to 8. First-class units 1 to 8; second-class units 0 to 8. The counter starts anywhere from 0 to 65,535."
+pub record Reached (p : Place) : Type 0 where
+  pub counts : Counts
+  pub counter : Ticket
+  pub steps : List Step
+  pub good : inRange counts ≡ true
+  pub fits : counter .0 < circle
+  pub run : after (start counts counter) steps ≡ p

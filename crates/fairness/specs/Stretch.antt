@@ -1,0 +1,81 @@
+-- "While a core that entered a first-class unit is neither granted there nor interrupted": the stretch that begins with the accepted R
+-- or C, and what is counted in it.
+use Prim.Native.Nat.{ℕ, _+_}
+use mathlib.Core.Bool.{Bool, true, false, _&&_, _||_, not}
+use mathlib.Core.List.{List, [], _∷_}
+use lib.Dec.{eqb, ltb}
+use Rattle.ticket.specs.declared.kinds.Grant.{Grant}
+use Rattle.block.specs.Fold.{some, one, count}
+use Rattle.block.specs.State.{isIdle}
+use Rattle.block.specs.Table.{cores, coreOf}
+use Rattle.block.specs.Steps.{step}
+use Rattle.block.specs.declared.table.Table.{Table}
+use Rattle.block.specs.declared.answer.Step.{Step}
+use Rattle.block.specs.declared.answer.Step.the-variants.{R, N, P, I, C, L}
+use Rattle.laws.specs.Granting.{listed}
+use Rattle.fairness.specs.Run.{Place, whose, done, interrupts, onward}
+
+-- the grants of a step from here; whether one is of unit u to core k; how many are of unit u
+abbrev pub grants : Place → Step → List Grant
+grants p s = listed (step (p .table) s .grants)
+
+unfoldable pub gives : ℕ → ℕ → List Grant → Bool
+gives u k [] = false
+gives u k (g ∷ more) = (eqb (g .unit .0) u && eqb (g .core .0) k) || gives u k more
+
+unfoldable pub grantsOf : ℕ → List Grant → ℕ
+grantsOf u [] = 0
+grantsOf u (g ∷ more) = one (eqb (g .unit .0) u) + grantsOf u more
+
+-- R enters the unit that it names, C the core's first unit
+abbrev pub entersAt : Table → Step → ℕ → Bool
+entersAt t (R k v) u = eqb (v .0) u
+entersAt t (N k v) u = false
+entersAt t (P k) u = false
+entersAt t (I k) u = false
+entersAt t (C k) u = eqb (coreOf t (k .0) .first .0) u
+entersAt t (L k) u = false
+
+-- core k enters unit u, which is first-class, and is not granted it at once
+abbrev pub enters : Place → Step → ℕ → ℕ → Bool
+enters p s k u =
+    done (p .table) s &&
+    eqb (whose s) k &&
+    entersAt (p .table) s u &&
+    ltb u (p .table .counts .first) &&
+    not (gives u k (grants p s))
+
+-- core k is granted u, or interrupted
+abbrev pub leaves : ℕ → ℕ → Place → Step → Bool
+leaves k u p s = gives u k (grants p s) || interrupts (p .table) s k
+
+-- none of the steps ends the stretch
+unfoldable pub stretch : ℕ → ℕ → Place → List Step → Bool
+stretch k u p [] = true
+stretch k u p (s ∷ more) = not (leaves k u p s) && stretch k u (onward p s) more
+
+-- "A ticket is live from its request to its release, also while its core is away."
+abbrev pub live : Place → ℕ → Bool
+live p j = not (isIdle (coreOf (p .table) j .state))
+
+-- "earlier tickets .. live at its entry": e is the place after the entry, where core k's ticket has its number. Core j's ticket is one of
+-- them; how many they are; the number i is that of one of them
+abbrev pub isEarlier : Place → ℕ → ℕ → Bool
+isEarlier e k j = live e j && ltb (e .issue j) (e .issue k)
+
+abbrev pub earlier : Place → ℕ → ℕ
+earlier e k = count (isEarlier e k) cores
+
+abbrev pub among : Place → ℕ → ℕ → Bool
+among e k i = some (λ (j : ℕ). isEarlier e k j && eqb (e .issue j) i) cores
+
+-- how often unit u was granted in the steps
+unfoldable pub passed : ℕ → Place → List Step → ℕ
+passed u p [] = 0
+passed u p (s ∷ more) = grantsOf u (grants p s) + passed u (onward p s) more
+
+-- "the interrupts accepted meanwhile from the cores that own them": each by the number that the core's ticket has then
+unfoldable pub interruptions : Place → ℕ → Place → List Step → ℕ
+interruptions e k p [] = 0
+interruptions e k p (s ∷ more) =
+    one (interrupts (p .table) s (whose s) && among e k (p .issue (whose s))) + interruptions e k (onward p s) more

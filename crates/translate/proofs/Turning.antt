@@ -1,0 +1,271 @@
+-- One turn of the loop over the step lines: what is still to be answered, `whole`, stays the same over a line that is answered, and
+-- is what is handed back at one that stops the run.
+use Prim.Native.Nat.{ℕ, _+_, _≤_, _<_}
+use mathlib.Core.Bool.{Bool, true, false, cond}
+use mathlib.Core.List.{List, _++_}
+use mathlib.Core.Logic.{_⊎_, inl, inr}
+use mathlib.Core.Path.{_≡_, refl, sym, _∙_, ap}
+use native.Mathlib.Omega.{arith}
+use lib.Dec.{leb}
+use lib.ListN.{length, take, drop, length-append, length-drop}
+use lib.Seq.{length-take-le}
+use borrow.Author.Tests.{leb-true, leb-false}
+use Rattle.ticket.specs.declared.kinds.Ticket.{Ticket}
+use Rattle.block.specs.Sound.{sound}
+use Rattle.block.specs.Steps.{onSound, step}
+use Rattle.block.specs.Build.{inRange, build}
+use Rattle.block.specs.declared.answer.Step.{Step}
+use Rattle.block.specs.declared.answer.Stepped.{Stepped}
+use Rattle.block.specs.declared.building.Built.{Built}
+use Rattle.block.specs.declared.table.Counts.{Counts}
+use Rattle.block.specs.declared.table.Table.{Table}
+use Rattle.lines.specs.Bytes.{letterE}
+use Rattle.lines.specs.Reading.{readStep, readHeader}
+use Rattle.lines.specs.Writing.{headerBytes, expectedBytes, fits, pasted, wrote, left, wroteHeader, leftHeader}
+use Rattle.lines.specs.declared.reading.HeaderLine.{HeaderLine}
+use Rattle.lines.specs.declared.reading.HeaderLine.the-variants.{Header, BadHeader as NoHeader, Unfinished as CutHeader}
+use Rattle.lines.specs.declared.reading.StepLine.{StepLine}
+use Rattle.lines.specs.declared.reading.StepLine.the-variants.{Line, Finished as Nothing, Malformed as NoStep, Unfinished as Cut}
+use Rattle.lines.specs.declared.writing.Written.{Written}
+use Rattle.lines.specs.declared.writing.Written.the-variants.{Next, OutOfRange, NoRoom as Full}
+use Rattle.translate.specs.Run.{stepsMost}
+use Rattle.translate.specs.Call.{Desk, Ended, due, judged, runAt, stoppedAt, answered, stepped, worked, opened, turn, halted, translated, call}
+use Rattle.translate.specs.declared.call.Todo.{Todo}
+use Rattle.translate.specs.declared.call.Todo.the-variants.{Work, Stop as Halt}
+use Rattle.translate.specs.declared.run.Run.{Run}
+use Rattle.translate.specs.declared.run.Stop.{Stop}
+use Rattle.translate.specs.declared.run.Stop.the-variants.{NoRoom, Finished, TooMany, BadHeader, Unfinished}
+use Rattle.translate.specs.declared.run.Stopped.{Stopped}
+use Rattle.lines.proofs.AsWritten.{header-read-is-written}
+use Rattle.translate.proofs.Fuel.{read-within, on, stop}
+
+-- a line that is to be worked was read, in time, for a table that is fit
+pub record Working (s : List ℕ) (place steps : ℕ) (fit : Bool) (x : Step) (next : ℕ) : Type 0 where
+  pub more : place < length s
+  pub early : steps < stepsMost
+  pub sound : fit ≡ true
+  pub line : readStep s place ≡ Line x next
+
+pub working :
+    (s : List ℕ) (place steps : ℕ) (fit : Bool) (x : Step) (next : ℕ) (d : Todo) →
+    d ≡ due s place steps fit →
+    d ≡ Work x next →
+    Working s place steps fit x next
+working s place steps fit x next d says is = go (leb (length s) place) (leb stepsMost steps) refl refl (sym says ∙ is)
+  where
+    read :
+        (l : StepLine) (b : Bool) →
+        judged l b ≡ Work x next →
+        (b ≡ true) × (l ≡ Line x next)
+    read (Line y n) true e = (refl, cc)
+    read (Line y n) false e = let z : _≡_ {A = ℕ} 0 1 = cc in absurd (omega arith)
+    read Nothing b e = let z : _≡_ {A = ℕ} 0 1 = cc in absurd (omega arith)
+    read NoStep b e = let z : _≡_ {A = ℕ} 0 1 = cc in absurd (omega arith)
+    read Cut b e = let z : _≡_ {A = ℕ} 0 1 = cc in absurd (omega arith)
+
+    go :
+        (p q : Bool) →
+        leb (length s) place ≡ p →
+        leb stepsMost steps ≡ q →
+        cond p (Halt Finished) (cond q (Halt TooMany) (judged (readStep s place) fit)) ≡ Work x next →
+        Working s place steps fit x next
+    go true q f g e = let z : _≡_ {A = ℕ} 0 1 = cc in absurd (omega arith)
+    go false true f g e = let z : _≡_ {A = ℕ} 0 1 = cc in absurd (omega arith)
+    go false false f g e =
+        let w = read (readStep s place) fit e in
+        record {
+          more = leb-false (length s) place f;
+          early = leb-false stepsMost steps g;
+          sound = w .0;
+          line = w .1;
+        }
+
+-- what a writer's answer says of the room
+wrote-fits :
+    (out : List ℕ) (at : ℕ) (xs : List ℕ) (w : Written) (p : ℕ) →
+    w ≡ wrote out at xs →
+    w ≡ Next p →
+    (fits out at xs ≡ true) × (p ≡ at + length xs)
+wrote-fits out at xs w p says is = go (fits out at xs) refl (sym says ∙ is)
+  where
+    go : (b : Bool) → fits out at xs ≡ b → cond b (Next (at + length xs)) Full ≡ Next p → (fits out at xs ≡ true) × (p ≡ at + length xs)
+    go true f e = (f, cc)
+    go false f e = let z : _≡_ {A = ℕ} 0 1 = cc in absurd (omega arith)
+
+wrote-full : (out : List ℕ) (at : ℕ) (xs : List ℕ) (w : Written) → w ≡ wrote out at xs → w ≡ Full → fits out at xs ≡ false
+wrote-full out at xs w says is = go (fits out at xs) refl (sym says ∙ is)
+  where
+    go : (b : Bool) → fits out at xs ≡ b → cond b (Next (at + length xs)) Full ≡ Full → fits out at xs ≡ false
+    go true f e = let z : _≡_ {A = ℕ} 0 1 = cc in absurd (omega arith)
+    go false f e = f
+
+pub wrote-ranged : (out : List ℕ) (at : ℕ) (xs : List ℕ) (w : Written) → w ≡ wrote out at xs → w ≡ OutOfRange → ⊥
+wrote-ranged out at xs w says is = go (fits out at xs) (sym says ∙ is)
+  where
+    go : (b : Bool) → cond b (Next (at + length xs)) Full ≡ OutOfRange → ⊥
+    go true e = let z : _≡_ {A = ℕ} 0 1 = cc in omega arith
+    go false e = let z : _≡_ {A = ℕ} 0 1 = cc in omega arith
+
+-- a line written, and one for which there is no room
+module _ (d : Desk) (xs : List ℕ) (next : ℕ) (t : Table) (steps : ℕ) (w : Written) (o : List ℕ) where
+  pub written :
+      (p : ℕ) →
+      w ≡ wrote (d .out) (d .run .wrote) xs →
+      o ≡ left (d .out) (d .run .wrote) xs →
+      w ≡ Next p →
+      answered d xs next t steps ≡ inl (record { run = runAt next p t steps; out = o })
+  written p says holds is =
+      let f = wrote-fits (d .out) (d .run .wrote) xs w p says is in
+      rw (holds, f .1, f .0)
+
+  pub unwritten :
+      w ≡ wrote (d .out) (d .run .wrote) xs →
+      o ≡ left (d .out) (d .run .wrote) xs →
+      w ≡ Full →
+      (answered d xs next t steps ≡ inr NoRoom) × (o ≡ d .out)
+  unwritten says holds is =
+      let f = wrote-full (d .out) (d .run .wrote) xs w says is in
+      (rw f, holds ∙ rw f)
+
+module _
+    (s : List ℕ) (place at steps : ℕ) (t : Table) (fit : Bool) (out : List ℕ) (whole : Ended)
+    (sure : fit ≡ sound t)
+    (so : whole ≡ translated (record { run = runAt place at t steps; out = out }) s)
+    (d : Todo)
+    (says : d ≡ due s place steps fit) where
+  abbrev here : Desk
+  here = record { run = runAt place at t steps; out = out }
+
+  due-here : (e : Todo) → d ≡ e → turn here s ≡ worked here e
+  due-here e is = ap (λ (b : Bool). worked here (due s place steps b)) (sym sure) ∙ ap (worked here) (sym says ∙ is)
+
+  ends : (why : Stop) → turn here s ≡ inr why → (stoppedAt place at t steps why ≡ whole .stopped) × (out ≡ whole .out)
+  ends why e =
+      let z = so ∙ stop here s why e in
+      (sym (ap (λ (x : Ended). x .stopped) z), sym (ap (λ (x : Ended). x .out) z))
+
+  -- finished, 24, 22, 21 and 16
+  pub stops :
+      (why : Stop) (r : Stopped) →
+      d ≡ Halt why →
+      r ≡ stoppedAt place at t steps why →
+      (r ≡ whole .stopped) × (out ≡ whole .out)
+  stops why r is e = let z = ends why (due-here (Halt why) is) in (e ∙ z .0, z .1)
+
+  module _ (x : Step) (next : ℕ) (is : d ≡ Work x next) (y : Stepped) (does : y ≡ onSound t x) where
+    pub work : Working s place steps fit x next
+    work = working s place steps fit x next d says is
+
+    pub fit-table : sound t ≡ true
+    fit-table = sym sure ∙ work .sound
+
+    stepped-here : step t x ≡ y
+    unfolding step
+    stepped-here = rw fit-table (sym does)
+
+    abbrev line : List ℕ
+    line = expectedBytes (steps + 1) (y .answer) (y .ticket) (y .grants)
+
+    turned : turn here s ≡ answered here line next (y .table) (steps + 1)
+    turned =
+        due-here (Work x next) is
+        ∙ ap
+        (λ (z : Stepped). answered here (expectedBytes (steps + 1) (z .answer) (z .ticket) (z .grants)) next (z .table) (steps + 1))
+        stepped-here
+
+    module _ (w : Written) (o : List ℕ) (wrote-so : (w ≡ wrote out at line) × (o ≡ left out at line)) where
+      pub answers : (p : ℕ) → w ≡ Next p → whole ≡ translated (record { run = runAt next p (y .table) (steps + 1); out = o }) s
+      answers p put = so ∙ on here _ s (turned ∙ written here line next (y .table) (steps + 1) w o p (wrote-so .0) (wrote-so .1) put)
+
+      -- 23
+      pub no-room :
+          (r : Stopped) → w ≡ Full → r ≡ stoppedAt place at t steps NoRoom → (r ≡ whole .stopped) × (o ≡ whole .out)
+      no-room r full e =
+          let u = unwritten here line next (y .table) (steps + 1) w o (wrote-so .0) (wrote-so .1) full in
+          let z = ends NoRoom (turned ∙ u .0) in
+          (e ∙ z .0, u .1 ∙ z .1)
+
+-- the run of a call whose header is read
+pub begins :
+    (r : Run) (s out : List ℕ) →
+    r .headed ≡ true →
+    call r s out ≡ translated (record { run = runAt (r .place) (r .wrote) (r .table) (r .steps); out = out }) s
+begins r s out e =
+    ap
+    (λ (b : Bool). translated (record { run = record { place = r .place; wrote = r .wrote; table = r .table; steps = r .steps; headed = b }; out = out }) s)
+    e
+
+-- a line that is written, or not, leaves the output as long as it was
+pub left-long : (out : List ℕ) (at : ℕ) (xs o : List ℕ) → o ≡ left out at xs → length o ≡ length out
+left-long out at xs o e = ap length e ∙ go (fits out at xs) refl
+  where
+    go : (b : Bool) → fits out at xs ≡ b → length (cond b (pasted out at xs) out) ≡ length out
+    go true f =
+        let h = leb-true (at + length xs) (length out) f in
+        length-append (take at out) (xs ++ drop (at + length xs) out)
+        ∙ rw (length-append xs (drop (at + length xs) out), length-drop (at + length xs) out, length-take-le at out (omega arith)) (omega arith)
+    go false f = refl
+
+-- The header's line
+
+module _ (r : Run) (s out : List ℕ) (unread : r .headed ≡ false) (h : HeaderLine) (says : h ≡ readHeader s (r .place)) where
+  abbrev before : Desk
+  before = record { run = r; out = out }
+
+  opens : (g : HeaderLine) → h ≡ g → turn before s ≡ opened before g
+  opens g is =
+      ap (λ (b : Bool). cond b (worked before (due s (r .place) (r .steps) (sound (r .table)))) (opened before (readHeader s (r .place)))) unread
+      ∙ ap (opened before) (sym says ∙ is)
+
+  ended : (why : Stop) → turn before s ≡ inr why → (record { run = r; why = why } ≡ call r s out .stopped) × (out ≡ call r s out .out)
+  ended why e =
+      let z = stop before s why e in
+      (sym (ap (λ (x : Ended). x .stopped) z), sym (ap (λ (x : Ended). x .out) z))
+
+  -- 20 and 22
+  pub no-header : h ≡ NoHeader → (record { run = r; why = BadHeader } ≡ call r s out .stopped) × (out ≡ call r s out .out)
+  no-header is = ended BadHeader (opens NoHeader is)
+
+  pub cut-header : h ≡ CutHeader → (record { run = r; why = Unfinished } ≡ call r s out .stopped) × (out ≡ call r s out .out)
+  cut-header is = ended Unfinished (opens CutHeader is)
+
+  module _ (c : Counts) (n : Ticket) (next : ℕ) (is : h ≡ Header c n next) (w : Written) (o : List ℕ) where
+    abbrev first : List ℕ
+    first = headerBytes letterE c n
+
+    ranged : inRange c ≡ true
+    ranged = header-read-is-written s (r .place) c n next (sym says ∙ is) .2
+
+    module _ (wrote-so : (w ≡ wroteHeader out (r .wrote) letterE c n) × (o ≡ leftHeader out (r .wrote) letterE c n)) where
+      put : w ≡ wrote out (r .wrote) first
+      put = wrote-so .0 ∙ ap (λ (b : Bool). cond b (wrote out (r .wrote) first) OutOfRange) ranged
+
+      holds : o ≡ left out (r .wrote) first
+      holds = wrote-so .1 ∙ ap (λ (b : Bool). cond b (left out (r .wrote) first) out) ranged
+
+      -- after the header: the run on the table that was built
+      pub opened-by :
+          (p : ℕ) (b : Built) (q : Run) (e : Stopped) (o' : List ℕ) →
+          w ≡ Next p →
+          b ≡ build c n →
+          q ≡ runAt next p (b .table) (r .steps) →
+          (e ≡ call q s o .stopped) × (o' ≡ call q s o .out) →
+          (e ≡ call r s out .stopped) × (o' ≡ call r s out .out)
+      opened-by p b q e o' put-at built at goes =
+          let desk : q ≡ runAt next p (build c n .table) (r .steps) = at ∙ ap (λ (z : Built). runAt next p (z .table) (r .steps)) built in
+          let z : call r s out ≡ call q s o =
+          on before (record { run = runAt next p (build c n .table) (r .steps); out = o }) s
+          (opens (Header c n next) is ∙ written before first next (build c n .table) (r .steps) w o p put holds put-at)
+          ∙ sym (ap (λ (m : Run). call m s o) desk)
+          in
+          (goes .0 ∙ sym (ap (λ (x : Ended). x .stopped) z), goes .1 ∙ sym (ap (λ (x : Ended). x .out) z))
+
+      pub out-of-range : w ≡ OutOfRange → ⊥
+      out-of-range e = wrote-ranged out (r .wrote) first w put e
+
+      -- 23
+      pub no-room-opening : w ≡ Full → (record { run = r; why = NoRoom } ≡ call r s out .stopped) × (o ≡ call r s out .out)
+      no-room-opening full =
+          let u = unwritten before first next (build c n .table) (r .steps) w o put holds full in
+          let z = ended NoRoom (opens (Header c n next) is ∙ u .0) in
+          (z .0, u .1 ∙ z .1)

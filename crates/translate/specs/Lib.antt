@@ -1,0 +1,4 @@
+pub mod Run
+pub mod Call
+pub mod Pieces
+pub mod Columns

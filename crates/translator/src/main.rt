@@ -1,0 +1,191 @@
+// The translator program: a script on standard input, the expected answers on standard output.
+//
+// It holds one piece of the script and one of the answers. Stopped by the script, it writes the line X
+// with the number; what stopped it is said on standard error, with the script's line.
+use libc::STDERR_FILENO;
+use libc::STDIN_FILENO;
+use libc::STDOUT_FILENO;
+use translate::Run;
+use translate::Stop;
+ghost use Rattle.io.specs.Counts.{Counts};
+
+// The run, how many bytes of the piece are the script's, and whether to go on.
+struct Progress {
+    run: Run,
+    have: usize,
+    on: bool,
+}
+
+fn main() {
+    let mut input = io::large_buffer();
+    let mut output = io::large_buffer();
+    every_turn(&mut input, &mut output);
+}
+
+// A turn reads, works a line, or is the last. A script of which every line is worked has at most
+// 1,000,001 lines of 14 bytes, so the turns are never used up.
+fn every_turn(input: &mut [u8], output: &mut [u8]) {
+    let run = translate::beginning();
+    let mut now = going(run, 0);
+    let mut turns = u64::MAX;
+    while 0 < turns {
+        now = turn(now, input, output);
+        if !now.on {
+            return;
+        }
+        turns -= 1;
+    }
+}
+
+// One call, and what follows from why it stopped.
+fn turn(p: Progress, input: &mut [u8], output: &mut [u8]) -> Progress {
+    let have = within(p.have, input);
+    let run = p.run;
+    let s = translate::translate(run, &input[..have], output);
+    let why = s.why;
+    let stands = s.run;
+    let wrote = within(stands.wrote, output);
+    let next = emptied(stands);
+    if !io::write_all(STDOUT_FILENO, &output[..wrote]) {
+        say(b"the output cannot be written\n");
+        return ended(next);
+    }
+    match why {
+        Stop::Finished => read_on(next, have, why, input),
+        Stop::Unfinished => read_on(next, have, why, input),
+        Stop::NoRoom => going(next, have),
+        Stop::Unsound => stop(next, why),
+        Stop::BadHeader => stop(next, why),
+        Stop::Malformed => stop(next, why),
+        Stop::TooMany => stop(next, why),
+    }
+}
+
+fn going(run: Run, have: usize) -> Progress {
+    Progress {
+        run,
+        have,
+        on: true,
+    }
+}
+
+fn ended(run: Run) -> Progress {
+    Progress {
+        run,
+        have: 0,
+        on: false,
+    }
+}
+
+// The run with its output taken away.
+fn emptied(run: Run) -> Run {
+    let mut r = run;
+    r.wrote = 0;
+    r
+}
+
+// The run at the front of the piece.
+fn fronted(run: Run) -> Run {
+    let mut r = run;
+    r.place = 0;
+    r
+}
+
+// What is left of the piece moves to its front, and more of the script is read after it.
+fn read_on(run: Run, have: usize, why: Stop, input: &mut [u8]) -> Progress {
+    let rest = keep(input, run.place, have);
+    let got = read_after(input, rest);
+    let n = io::count(got, input);
+    let next = fronted(run);
+    if got < 0 {
+        say(b"the script cannot be read\n");
+        return ended(next);
+    }
+    if n == 0 {
+        return last(next, why);
+    }
+    going(next, sum(rest, n))
+}
+
+// The bytes from a place on, of those that the piece has, move to its front. Answers how many.
+fn keep(input: &mut [u8], place: usize, have: usize) -> usize
+    ensures { λ r. ⌜ Counts r (now (input .exit)) ⌝ }
+{
+    let end = within(have, input);
+    let mut rest = 0;
+    let mut i = place;
+    while i < end {
+        input[rest] = input[i];
+        rest += 1;
+        i += 1;
+    }
+    rest
+}
+
+// One read into the piece, after the bytes that were kept.
+fn read_after(input: &mut [u8], rest: usize) -> isize {
+    let from = within(rest, input);
+    let more = &mut input[from..];
+    libc::read(STDIN_FILENO, more)
+}
+
+// How many bytes of a piece: no more than it has.
+fn within(n: usize, piece: &[u8]) -> usize
+    ensures { λ r. ⌜ Counts r (now (piece .entry)) ⌝ }
+{
+    if n < piece.len() { n } else { piece.len() }
+}
+
+// The sum, or 0 where it does not fit: a piece is far smaller.
+fn sum(a: usize, b: usize) -> usize {
+    if a < usize::MAX - b { a + b } else { 0 }
+}
+
+// The script has ended, well or within a line.
+fn last(run: Run, why: Stop) -> Progress {
+    match why {
+        Stop::Finished => ended(run),
+        Stop::Unfinished => stop(run, why),
+        Stop::NoRoom => ended(run),
+        Stop::Unsound => ended(run),
+        Stop::BadHeader => ended(run),
+        Stop::Malformed => ended(run),
+        Stop::TooMany => ended(run),
+    }
+}
+
+// The last line of the output, and what is wrong with the script's line at which the run stands.
+fn stop(run: Run, why: Stop) -> Progress {
+    io::write_all(STDOUT_FILENO, b"X\t");
+    io::print_decimal(STDOUT_FILENO, translate::stop_number(why) as u64);
+    io::write_all(STDOUT_FILENO, b"\n");
+    io::write_all(STDERR_FILENO, b"line ");
+    io::print_decimal(STDERR_FILENO, line_number(run));
+    io::write_all(STDERR_FILENO, b": ");
+    explain(why);
+    ended(run)
+}
+
+// The number of the script's line at which the run stands: after the header, and a line for each step.
+fn line_number(run: Run) -> u64 {
+    let steps = run.steps as u64;
+    if run.headed { steps + 2 } else { 1 }
+}
+
+fn explain(why: Stop) {
+    match why {
+        Stop::Finished => say(b"finished\n"),
+        Stop::Unsound => say(b"the table is not sound (16)\n"),
+        Stop::BadHeader => say(
+            b"not a header T with 1 to 8 cores, 1 to 8 and 0 to 8 units, and a counter (20)\n",
+        ),
+        Stop::Malformed => say(b"not a step line (21)\n"),
+        Stop::Unfinished => say(b"the script ends before the line does (22)\n"),
+        Stop::NoRoom => say(b"no room for the answer (23)\n"),
+        Stop::TooMany => say(b"a line after 1000000 steps (24)\n"),
+    }
+}
+
+fn say(text: &[u8]) {
+    io::write_all(STDERR_FILENO, text);
+}

@@ -1,0 +1,364 @@
+//! Many cases in one process: binary cases in, text answers out.
+//!
+//! A case is a letter and its payload, numbers little endian:
+//! - `T`: u16 length, script. Answer: the translator's bytes, then a line `--`.
+//! - `S`: a table of 592 bytes (see `put_table`). Answer: `S`, 1 if sound else 0.
+//! - `W`: u32 word. Answer: `W`, 30, or `W`, 0, ticket, valid, flag.
+//! - `P`: a register. Answer: `P`, 30, or `P`, 0, word.
+//! - `I`: u16 cores, first, second, n; n words. Answer: `I`, 20 or 30, or `I`, 0
+//!   and ticket, valid, flag of each register.
+//! - `O`: u16 cores, first, second, room; 16 x 8 registers. Answer: `O`, 20 or
+//!   30, or `O`, 0 and each word.
+//!
+//! A case that is cut off, or of no such letter, ends the run.
+
+use std::io::{self, BufReader, BufWriter, ErrorKind, Read, Write};
+
+use crate::script::put_field;
+use crate::table::{Core, Register, State, Table, Unit, MAX_CORES, MAX_UNITS};
+use crate::translate::translate;
+use crate::words;
+
+/// Most words of an image in a case.
+pub const WORDS_MAX: usize = 200;
+const REGISTERS: usize = MAX_UNITS * MAX_CORES * 4;
+pub const TABLE: usize = 8 + MAX_CORES * 9 + REGISTERS;
+
+fn put_u16(case: &mut Vec<u8>, number: u16) {
+    case.extend_from_slice(&number.to_le_bytes());
+}
+
+fn put_register(case: &mut Vec<u8>, register: &Register) {
+    put_u16(case, register.ticket);
+    case.push(register.valid as u8);
+    case.push(register.flag as u8);
+}
+
+/// A script has at most 65,535 bytes here.
+pub fn put_script(case: &mut Vec<u8>, script: &[u8]) {
+    case.push(b'T');
+    put_u16(
+        case,
+        u16::try_from(script.len()).expect("script too long for a case"),
+    );
+    case.extend_from_slice(script);
+}
+
+pub fn put_table(case: &mut Vec<u8>, table: &Table) {
+    case.push(b'S');
+    for number in [
+        table.cores,
+        table.first_class,
+        table.second_class,
+        table.counter,
+    ] {
+        put_u16(case, number);
+    }
+    for core in &table.core {
+        for number in [core.own, core.carried, core.first, core.second] {
+            put_u16(case, number);
+        }
+        case.push(core.state as u8);
+    }
+    for register in table.unit.iter().flatten() {
+        put_register(case, register);
+    }
+}
+
+pub fn put_word(case: &mut Vec<u8>, word: u32) {
+    case.push(b'W');
+    case.extend_from_slice(&word.to_le_bytes());
+}
+
+pub fn put_pack(case: &mut Vec<u8>, register: &Register) {
+    case.push(b'P');
+    put_register(case, register);
+}
+
+pub fn put_read_image(case: &mut Vec<u8>, counts: [u16; 3], words: &[u32]) {
+    case.push(b'I');
+    for number in counts {
+        put_u16(case, number);
+    }
+    put_u16(case, words.len() as u16);
+    for word in words {
+        case.extend_from_slice(&word.to_le_bytes());
+    }
+}
+
+pub fn put_write_image(case: &mut Vec<u8>, counts: [u16; 3], room: u16, units: &[Unit; MAX_UNITS]) {
+    case.push(b'O');
+    for number in counts {
+        put_u16(case, number);
+    }
+    put_u16(case, room);
+    for register in units.iter().flatten() {
+        put_register(case, register);
+    }
+}
+
+/// Takes numbers off the front of a payload that has been read whole.
+struct Payload<'a>(&'a [u8]);
+
+impl Payload<'_> {
+    fn byte(&mut self) -> u8 {
+        let byte = self.0[0];
+        self.0 = &self.0[1..];
+        byte
+    }
+
+    fn u16(&mut self) -> u16 {
+        u16::from_le_bytes([self.byte(), self.byte()])
+    }
+
+    fn u32(&mut self) -> u32 {
+        self.u16() as u32 | (self.u16() as u32) << 16
+    }
+
+    fn register(&mut self) -> Register {
+        Register {
+            ticket: self.u16(),
+            valid: self.byte() != 0,
+            flag: self.byte() != 0,
+        }
+    }
+
+    fn units(&mut self) -> [Unit; MAX_UNITS] {
+        let mut units = [Unit::default(); MAX_UNITS];
+        for register in units.iter_mut().flatten() {
+            *register = self.register();
+        }
+        units
+    }
+
+    /// None for a byte that names no state.
+    fn table(&mut self) -> Option<Table> {
+        let mut table = Table {
+            cores: self.u16(),
+            first_class: self.u16(),
+            second_class: self.u16(),
+            counter: self.u16(),
+            core: [Core::default(); MAX_CORES],
+            unit: [Unit::default(); MAX_UNITS],
+        };
+        for core in &mut table.core {
+            *core = Core {
+                own: self.u16(),
+                carried: self.u16(),
+                first: self.u16(),
+                second: self.u16(),
+                state: match self.byte() {
+                    0 => State::Idle,
+                    1 => State::Waiting,
+                    2 => State::Holding,
+                    3 => State::WaitingSecond,
+                    4 => State::HoldingBoth,
+                    5 => State::Away,
+                    _ => return None,
+                },
+            };
+        }
+        table.unit = self.units();
+        Some(table)
+    }
+}
+
+fn put_answer(out: &mut Vec<u8>, letter: u8, answer: u8) {
+    out.push(letter);
+    put_field(out, answer as u32);
+}
+
+fn put_fields(out: &mut Vec<u8>, register: &Register) {
+    put_field(out, register.ticket as u32);
+    put_field(out, register.valid as u32);
+    put_field(out, register.flag as u32);
+}
+
+/// Reads one case and puts its answer; false when its letter is unknown.
+fn answer<R: Read>(input: &mut R, payload: &mut Vec<u8>, out: &mut Vec<u8>) -> io::Result<bool> {
+    let mut head = [0; 1];
+    input.read_exact(&mut head)?;
+    let letter = head[0];
+    let mut read = |payload: &mut Vec<u8>, length: usize| {
+        payload.resize(length, 0);
+        input.read_exact(payload)
+    };
+    match letter {
+        b'T' => {
+            read(payload, 2)?;
+            let length = Payload(payload).u16();
+            read(payload, length as usize)?;
+            translate(&payload[..], &mut *out)?;
+            out.extend_from_slice(b"--");
+        }
+        b'S' => {
+            read(payload, TABLE)?;
+            let sound = Payload(payload).table().is_some_and(|table| table.sound());
+            put_answer(out, letter, sound as u8);
+        }
+        b'W' => {
+            read(payload, 4)?;
+            match words::unpack(Payload(payload).u32()) {
+                None => put_answer(out, letter, 30),
+                Some(register) => {
+                    put_answer(out, letter, 0);
+                    put_fields(out, &register);
+                }
+            }
+        }
+        b'P' => {
+            read(payload, 4)?;
+            match words::pack(Payload(payload).register()) {
+                None => put_answer(out, letter, 30),
+                Some(word) => {
+                    put_answer(out, letter, 0);
+                    put_field(out, word);
+                }
+            }
+        }
+        b'I' => {
+            read(payload, 8)?;
+            let mut fields = Payload(payload);
+            let [cores, first, second, n] = [(); 4].map(|()| fields.u16());
+            read(payload, n as usize * 4)?;
+            let mut fields = Payload(payload);
+            let image: Vec<u32> = (0..n).map(|_| fields.u32()).collect();
+            match words::read_image(cores, first, second, &image) {
+                Err(number) => put_answer(out, letter, number),
+                Ok(units) => {
+                    put_answer(out, letter, 0);
+                    for unit in &units[..(first + second) as usize] {
+                        for register in &unit[..cores as usize] {
+                            put_fields(out, register);
+                        }
+                    }
+                }
+            }
+        }
+        b'O' => {
+            read(payload, 8 + REGISTERS)?;
+            let mut fields = Payload(payload);
+            let [cores, first, second, room] = [(); 4].map(|()| fields.u16());
+            let units = fields.units();
+            let mut image = vec![0; room as usize];
+            match words::write_image(cores, first, second, &units, &mut image) {
+                Err(number) => put_answer(out, letter, number),
+                Ok(()) => {
+                    put_answer(out, letter, 0);
+                    for word in image {
+                        put_field(out, word);
+                    }
+                }
+            }
+        }
+        _ => return Ok(false),
+    }
+    out.push(b'\n');
+    Ok(true)
+}
+
+/// Answers every whole case of the input.
+pub fn answer_all<R: Read, W: Write>(input: R, output: W) -> io::Result<()> {
+    let mut input = BufReader::with_capacity(64 * 1024, input);
+    let mut output = BufWriter::with_capacity(64 * 1024, output);
+    let mut payload = Vec::new();
+    let mut out = Vec::new();
+    loop {
+        out.clear();
+        match answer(&mut input, &mut payload, &mut out) {
+            Ok(true) => output.write_all(&out)?,
+            Ok(false) => break,
+            Err(error) if error.kind() == ErrorKind::UnexpectedEof => break,
+            Err(error) => return Err(error),
+        }
+    }
+    output.flush()
+}
+
+/// The answer to one case.
+pub fn answer_to(mut case: &[u8], out: &mut Vec<u8>) {
+    let mut payload = Vec::new();
+    answer(&mut case, &mut payload, out).expect("a whole case");
+}
+
+/// A case other than a script, for a reader.
+pub fn described(case: &[u8]) -> String {
+    let mut text = format!("case {}, bytes", case[0] as char);
+    for byte in &case[1..] {
+        text += &format!(" {byte:02x}");
+    }
+    if case[0] == b'S' {
+        if let Some(table) = Payload(&case[1..]).table() {
+            let Table {
+                cores,
+                first_class,
+                second_class,
+                counter,
+                ..
+            } = table;
+            text += &format!("\ncounts {cores} {first_class} {second_class}, counter {counter}");
+            for (c, core) in table.core.iter().enumerate() {
+                text += &format!("\ncore {c}: {core:?}");
+            }
+            for (u, unit) in table.unit.iter().enumerate() {
+                for (c, register) in unit.iter().enumerate() {
+                    if *register != Register::default() {
+                        text += &format!("\nunit {u} core {c}: {register:?}");
+                    }
+                }
+            }
+        }
+    }
+    text
+}
+
+#[cfg(test)]
+mod tests {
+    use super::*;
+
+    #[test]
+    fn every_letter() {
+        let mut cases = Vec::new();
+        put_script(&mut cases, b"T\t1\t1\t0\t7\nR\t0\t0\nZ");
+        put_script(&mut cases, b"");
+        let table = Table::fresh(2, 1, 1, 5).unwrap();
+        put_table(&mut cases, &table);
+        let mut broken = table.clone();
+        broken.core[1].second = 1;
+        put_table(&mut cases, &broken);
+        put_word(&mut cases, 262_143);
+        put_word(&mut cases, 5);
+        put_pack(
+            &mut cases,
+            &Register {
+                ticket: 2,
+                valid: true,
+                flag: false,
+            },
+        );
+        put_pack(
+            &mut cases,
+            &Register {
+                ticket: 2,
+                valid: false,
+                flag: false,
+            },
+        );
+        put_read_image(&mut cases, [1, 1, 1], &[65_537, 0]);
+        put_read_image(&mut cases, [1, 1, 1], &[65_537]);
+        put_read_image(&mut cases, [9, 1, 1], &[65_537]);
+        put_write_image(&mut cases, [2, 1, 1], 4, &table.unit);
+        put_write_image(&mut cases, [2, 1, 1], 5, &table.unit);
+        put_write_image(&mut cases, [2, 0, 1], 2, &table.unit);
+        cases.extend_from_slice(b"W\x01"); // cut off
+        let mut out = Vec::new();
+        answer_all(&cases[..], &mut out).unwrap();
+        assert_eq!(
+            String::from_utf8(out).unwrap(),
+            "E\t1\t1\t0\t7\n1\t0\t7\t1\t0\t0\nX\t22\n--\nX\t22\n--\nS\t1\nS\t0\n\
+             W\t0\t65535\t1\t1\nW\t30\nP\t0\t65538\nP\t30\nI\t0\t1\t1\t0\t0\t0\t0\nI\t30\nI\t20\n\
+             O\t0\t0\t0\t0\t0\nO\t30\nO\t20\n"
+        );
+        assert_eq!(TABLE, 592);
+    }
+}

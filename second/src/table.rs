@@ -1,0 +1,538 @@
+//! The table of cores, units and the ticket counter, the six steps on it, and
+//! the judgement whether a table is sound.
+
+pub const MAX_CORES: usize = 8;
+pub const MAX_UNITS: usize = 16;
+
+#[derive(Clone, Copy, PartialEq, Eq, Debug, Default)]
+pub enum State {
+    #[default]
+    Idle,
+    /// Waiting at its first unit.
+    Waiting,
+    /// Holding its first unit.
+    Holding,
+    /// Holding its first unit and waiting at its second.
+    WaitingSecond,
+    HoldingBoth,
+    /// In a handler; stands at no unit but keeps its ticket and first unit.
+    Away,
+}
+
+/// What the state does not speak of is 0.
+#[derive(Clone, Copy, PartialEq, Eq, Debug, Default)]
+pub struct Core {
+    pub state: State,
+    pub own: u16,
+    pub carried: u16,
+    pub first: u16,
+    pub second: u16,
+}
+
+#[derive(Clone, Copy, PartialEq, Eq, Debug, Default)]
+pub struct Register {
+    pub ticket: u16,
+    pub valid: bool,
+    pub flag: bool,
+}
+
+/// One register for each core.
+pub type Unit = [Register; MAX_CORES];
+
+#[derive(Clone, PartialEq, Eq, Debug)]
+pub struct Table {
+    pub cores: u16,
+    pub first_class: u16,
+    pub second_class: u16,
+    pub counter: u16,
+    pub core: [Core; MAX_CORES],
+    pub unit: [Unit; MAX_UNITS],
+}
+
+#[derive(Clone, Copy, PartialEq, Eq, Debug)]
+pub enum Kind {
+    Request,
+    Nest,
+    Poll,
+    Interrupt,
+    Continue,
+    Leave,
+}
+
+/// `unit` is read for `Request` and `Nest` alone.
+#[derive(Clone, Copy, PartialEq, Eq, Debug)]
+pub struct Step {
+    pub kind: Kind,
+    pub core: u16,
+    pub unit: u16,
+}
+
+/// The first `granted` entries of `grants` are (unit, core), by rising unit.
+#[derive(Clone, Copy, PartialEq, Eq, Debug)]
+pub struct Outcome {
+    pub answer: u8,
+    pub ticket: u16,
+    pub granted: usize,
+    pub grants: [(u16, u16); 2],
+}
+
+impl Outcome {
+    fn of(answer: u8, ticket: u16) -> Outcome {
+        Outcome {
+            answer,
+            ticket,
+            granted: 0,
+            grants: [(0, 0); 2],
+        }
+    }
+
+    fn refused(answer: u8) -> Outcome {
+        Outcome::of(answer, 0)
+    }
+}
+
+/// The top bit of the wrapped difference.
+#[inline]
+pub fn older(a: u16, b: u16) -> bool {
+    a.wrapping_sub(b) >= 0x8000
+}
+
+pub fn counts_in_range(cores: u16, first_class: u16, second_class: u16) -> bool {
+    (1..=8).contains(&cores) && (1..=8).contains(&first_class) && second_class <= 8
+}
+
+impl Table {
+    /// None when the counts are out of range.
+    pub fn fresh(cores: u16, first_class: u16, second_class: u16, counter: u16) -> Option<Table> {
+        if !counts_in_range(cores, first_class, second_class) {
+            return None;
+        }
+        Some(Table {
+            cores,
+            first_class,
+            second_class,
+            counter,
+            core: Default::default(),
+            unit: Default::default(),
+        })
+    }
+
+    #[inline]
+    pub fn units(&self) -> u16 {
+        self.first_class + self.second_class
+    }
+
+    /// Makes the step on a sound table. A refused step leaves the table as it was.
+    #[inline]
+    pub fn step(&mut self, step: Step) -> Outcome {
+        if step.core >= self.cores {
+            return Outcome::refused(10);
+        }
+        let c = step.core as usize;
+        match step.kind {
+            Kind::Request => self.request(c, step.unit),
+            Kind::Nest => self.nest(c, step.unit),
+            Kind::Poll => self.poll(c),
+            Kind::Interrupt => self.interrupt(c),
+            Kind::Continue => self.come_back(c),
+            Kind::Leave => self.release(c),
+        }
+    }
+
+    fn request(&mut self, c: usize, unit: u16) -> Outcome {
+        if unit >= self.units() {
+            return Outcome::refused(11);
+        }
+        if self.core[c].state != State::Idle {
+            return Outcome::refused(12);
+        }
+        let ticket = self.counter;
+        let stretched =
+            |core: &Core| core.state != State::Idle && ticket.wrapping_sub(core.own) >= 0x8000;
+        if self.core.iter().any(stretched) {
+            return Outcome::refused(15);
+        }
+        self.counter = ticket.wrapping_add(1);
+        self.core[c] = Core {
+            state: State::Waiting,
+            own: ticket,
+            carried: ticket,
+            first: unit,
+            second: 0,
+        };
+        self.enter(unit, c, ticket);
+        let mut outcome = Outcome::of(0, ticket);
+        self.settle(unit, &mut outcome);
+        outcome
+    }
+
+    fn nest(&mut self, c: usize, unit: u16) -> Outcome {
+        if unit >= self.units() {
+            return Outcome::refused(11);
+        }
+        let core = self.core[c];
+        if core.state != State::Holding {
+            return Outcome::refused(12);
+        }
+        if unit < self.first_class || core.first >= self.first_class {
+            return Outcome::refused(13);
+        }
+        self.core[c].state = State::WaitingSecond;
+        self.core[c].second = unit;
+        self.enter(unit, c, core.own);
+        let mut outcome = Outcome::of(0, core.carried);
+        self.settle(unit, &mut outcome);
+        outcome
+    }
+
+    /// A poll makes no register invalid, so nothing is left to settle after it.
+    fn poll(&mut self, c: usize) -> Outcome {
+        let core = self.core[c];
+        match core.state {
+            State::Waiting => {
+                if self.unit[core.first as usize][c].flag {
+                    self.core[c].state = State::Holding;
+                    Outcome::of(1, core.carried)
+                } else {
+                    Outcome::of(2, core.carried)
+                }
+            }
+            State::WaitingSecond => {
+                if self.unit[core.second as usize][c].flag {
+                    self.core[c].state = State::HoldingBoth;
+                    Outcome::of(1, core.carried)
+                } else {
+                    Outcome::of(2, self.inherit(c))
+                }
+            }
+            _ => Outcome::refused(12),
+        }
+    }
+
+    /// Gives the carried ticket after the attempt to inherit.
+    fn inherit(&mut self, c: usize) -> u16 {
+        let core = self.core[c];
+        let mut carried = core.carried;
+        // Taking each older one in turn ends at the oldest, or at the carried one.
+        for register in &self.unit[core.first as usize][..self.cores as usize] {
+            if register.valid && !register.flag && older(register.ticket, carried) {
+                carried = register.ticket;
+            }
+        }
+        self.core[c].carried = carried;
+        self.unit[core.second as usize][c].ticket = carried;
+        carried
+    }
+
+    fn interrupt(&mut self, c: usize) -> Outcome {
+        let core = self.core[c];
+        let two = match core.state {
+            State::Waiting => false,
+            State::WaitingSecond => true,
+            State::Holding | State::HoldingBoth => return Outcome::refused(14),
+            State::Idle | State::Away => return Outcome::refused(12),
+        };
+        self.core[c] = Core {
+            state: State::Away,
+            carried: core.own,
+            second: 0,
+            ..core
+        };
+        self.give_up(c, &core, two, core.own)
+    }
+
+    fn come_back(&mut self, c: usize) -> Outcome {
+        let core = self.core[c];
+        if core.state != State::Away {
+            return Outcome::refused(12);
+        }
+        self.core[c].state = State::Waiting;
+        self.enter(core.first, c, core.own);
+        let mut outcome = Outcome::of(0, core.own);
+        self.settle(core.first, &mut outcome);
+        outcome
+    }
+
+    fn release(&mut self, c: usize) -> Outcome {
+        let core = self.core[c];
+        let two = match core.state {
+            State::Holding => false,
+            State::HoldingBoth => true,
+            _ => return Outcome::refused(12),
+        };
+        self.core[c] = Core::default();
+        self.give_up(c, &core, two, core.own)
+    }
+
+    fn enter(&mut self, unit: u16, c: usize, ticket: u16) {
+        self.unit[unit as usize][c] = Register {
+            ticket,
+            valid: true,
+            flag: false,
+        };
+    }
+
+    /// Frees what `core` stood at, both units before settling. A second unit
+    /// has the higher number, so the grants come by rising unit.
+    fn give_up(&mut self, c: usize, core: &Core, two: bool, ticket: u16) -> Outcome {
+        let mut outcome = Outcome::of(0, ticket);
+        self.unit[core.first as usize][c] = Register::default();
+        if two {
+            self.unit[core.second as usize][c] = Register::default();
+        }
+        self.settle(core.first, &mut outcome);
+        if two {
+            self.settle(core.second, &mut outcome);
+        }
+        outcome
+    }
+
+    /// Only the units a step touched need this: the others were settled before.
+    fn settle(&mut self, unit: u16, outcome: &mut Outcome) {
+        let registers = &mut self.unit[unit as usize][..self.cores as usize];
+        let mut oldest: Option<(usize, u16)> = None;
+        for (c, register) in registers.iter().enumerate() {
+            if register.flag {
+                return;
+            }
+            if register.valid {
+                match oldest {
+                    Some((_, ticket)) if !older(register.ticket, ticket) => {}
+                    _ => oldest = Some((c, register.ticket)),
+                }
+            }
+        }
+        if let Some((c, _)) = oldest {
+            registers[c].flag = true;
+            outcome.grants[outcome.granted] = (unit, c as u16);
+            outcome.granted += 1;
+        }
+    }
+
+    pub fn sound(&self) -> bool {
+        if !counts_in_range(self.cores, self.first_class, self.second_class) {
+            return false;
+        }
+        let cores = self.cores as usize;
+        let units = self.units() as usize;
+        let blank_core = Core::default();
+        let blank = Register::default();
+        self.core[cores..].iter().all(|core| *core == blank_core)
+            && self.unit[units..]
+                .iter()
+                .flatten()
+                .all(|register| *register == blank)
+            && (0..cores).all(|c| self.core_sound(c))
+            && (0..units).all(|u| self.unit_sound(u))
+    }
+
+    /// Ticket, names of units and class of one core.
+    fn core_sound(&self, c: usize) -> bool {
+        let core = &self.core[c];
+        if core.state == State::Idle {
+            return *core == Core::default();
+        }
+        let behind = self.counter.wrapping_sub(core.own);
+        if !(1..=0x8000).contains(&behind) || core.first >= self.units() {
+            return false;
+        }
+        let mut others = self.core.iter().enumerate().filter(|(d, _)| *d != c);
+        if others
+            .clone()
+            .any(|(_, o)| o.state != State::Idle && o.own == core.own)
+        {
+            return false;
+        }
+        match core.state {
+            State::WaitingSecond | State::HoldingBoth => {
+                core.first < self.first_class
+                    && core.second >= self.first_class
+                    && core.second < self.units()
+                    && (core.carried == core.own
+                        || older(core.carried, core.own)
+                            && others.any(|(_, o)| {
+                                matches!(o.state, State::Waiting | State::Away)
+                                    && o.own == core.carried
+                                    && o.first == core.first
+                            }))
+            }
+            _ => core.second == 0 && core.carried == core.own,
+        }
+    }
+
+    /// Registers against the cores' states, and the number of flags.
+    fn unit_sound(&self, u: usize) -> bool {
+        let mut valid = 0;
+        let mut flags = 0;
+        for (register, core) in self.unit[u].iter().zip(&self.core) {
+            let at_first = core.first as usize == u;
+            let at_second = core.second as usize == u;
+            // The ticket to show and whether the flag has to be set.
+            let due = match core.state {
+                State::Waiting if at_first => Some((core.own, false)),
+                State::Holding | State::WaitingSecond | State::HoldingBoth if at_first => {
+                    Some((core.own, true))
+                }
+                State::WaitingSecond if at_second => Some((core.carried, false)),
+                State::HoldingBoth if at_second => Some((core.carried, true)),
+                _ => None,
+            };
+            let agrees = match due {
+                Some((ticket, held)) => {
+                    register.valid && register.ticket == ticket && (register.flag || !held)
+                }
+                None => *register == Register::default(),
+            };
+            if !agrees {
+                return false;
+            }
+            valid += register.valid as u32;
+            flags += register.flag as u32;
+        }
+        flags == (valid > 0) as u32
+    }
+}
+
+#[cfg(test)]
+mod tests {
+    use super::*;
+    use Kind::*;
+
+    fn make(table: &mut Table, kind: Kind, core: u16, unit: u16) -> (u8, u16, Vec<(u16, u16)>) {
+        let outcome = table.step(Step { kind, core, unit });
+        assert!(table.sound(), "{table:?}");
+        (
+            outcome.answer,
+            outcome.ticket,
+            outcome.grants[..outcome.granted].to_vec(),
+        )
+    }
+
+    #[test]
+    fn older_as_listed() {
+        for (a, b, expected) in [
+            (65535, 0, true),
+            (0, 65535, false),
+            (0, 32767, true),
+            (32767, 0, false),
+            (0, 32768, true),
+            (32768, 0, true),
+            (7, 7, false),
+        ] {
+            assert_eq!(older(a, b), expected, "{a} {b}");
+        }
+    }
+
+    /// Ticket 0 held by core 0, and the counter moved on to `counter`.
+    fn ticket_0_live(counter: u16) -> Table {
+        let mut table = Table::fresh(2, 2, 0, 0).unwrap();
+        assert_eq!(make(&mut table, Request, 0, 0), (0, 0, vec![(0, 0)]));
+        for _ in 1..counter {
+            make(&mut table, Request, 1, 1);
+            make(&mut table, Poll, 1, 0);
+            make(&mut table, Leave, 1, 0);
+        }
+        assert_eq!(table.counter, counter);
+        table
+    }
+
+    #[test]
+    fn a_request_half_the_circle_on() {
+        let mut table = ticket_0_live(32_767);
+        assert_eq!(make(&mut table, Request, 1, 0), (0, 32_767, vec![]));
+        let mut table = ticket_0_live(32_768);
+        let before = table.clone();
+        assert_eq!(make(&mut table, Request, 1, 0), (15, 0, vec![]));
+        assert_eq!(table, before);
+        // Also while the core of ticket 0 is away; no longer once it has ended.
+        make(&mut table, Interrupt, 0, 0);
+        assert_eq!(make(&mut table, Request, 1, 0).0, 15);
+        make(&mut table, Continue, 0, 0);
+        make(&mut table, Poll, 0, 0);
+        make(&mut table, Leave, 0, 0);
+        assert_eq!(make(&mut table, Request, 1, 0), (0, 32_768, vec![(0, 1)]));
+    }
+
+    #[test]
+    fn refusals_in_order() {
+        let mut table = Table::fresh(2, 1, 1, 9).unwrap();
+        for (kind, core, unit, answer) in [
+            (Request, 2, 2, 10),
+            (Nest, 65_535, 0, 10),
+            (Request, 0, 2, 11),
+            (Nest, 0, 2, 11),
+            (Nest, 0, 0, 12),
+            (Poll, 0, 0, 12),
+            (Interrupt, 0, 0, 12),
+            (Continue, 0, 0, 12),
+            (Leave, 0, 0, 12),
+        ] {
+            let before = table.clone();
+            assert_eq!(make(&mut table, kind, core, unit), (answer, 0, vec![]));
+            assert_eq!(table, before);
+        }
+        make(&mut table, Request, 0, 0);
+        assert_eq!(make(&mut table, Request, 0, 0).0, 12);
+        assert_eq!(make(&mut table, Request, 0, 2).0, 11);
+        assert_eq!(make(&mut table, Leave, 0, 0).0, 12);
+        make(&mut table, Poll, 0, 0);
+        assert_eq!(make(&mut table, Interrupt, 0, 0).0, 14);
+        assert_eq!(make(&mut table, Nest, 0, 0).0, 13);
+        make(&mut table, Nest, 0, 1);
+        assert_eq!(make(&mut table, Leave, 0, 0).0, 12);
+        assert_eq!(make(&mut table, Nest, 0, 1).0, 12);
+        make(&mut table, Poll, 0, 0);
+        assert_eq!(make(&mut table, Interrupt, 0, 0).0, 14);
+        // Held second-class: nothing to nest in.
+        make(&mut table, Leave, 0, 0);
+        make(&mut table, Request, 0, 1);
+        make(&mut table, Poll, 0, 0);
+        assert_eq!(make(&mut table, Nest, 0, 1).0, 13);
+    }
+
+    #[test]
+    fn inherits_from_the_first_unit_and_drops_it_when_interrupted() {
+        let mut table = Table::fresh(4, 1, 1, 65_534).unwrap();
+        make(&mut table, Request, 3, 1); // 65534 keeps the second unit
+        make(&mut table, Poll, 3, 0);
+        make(&mut table, Request, 0, 0); // 65535
+        make(&mut table, Interrupt, 0, 0);
+        make(&mut table, Request, 1, 0); // 0
+        make(&mut table, Poll, 1, 0);
+        assert_eq!(make(&mut table, Nest, 1, 1), (0, 0, vec![]));
+        assert_eq!(make(&mut table, Poll, 1, 0), (2, 0, vec![]));
+        // The same ticket as before on the return, and it is the older one.
+        assert_eq!(make(&mut table, Continue, 0, 0), (0, 65_535, vec![]));
+        assert_eq!(make(&mut table, Poll, 1, 0), (2, 65_535, vec![]));
+        assert_eq!(table.unit[1][1].ticket, 65_535);
+        // It stays when its giver goes away.
+        make(&mut table, Interrupt, 0, 0);
+        assert_eq!(make(&mut table, Poll, 1, 0), (2, 65_535, vec![]));
+        assert_eq!(make(&mut table, Interrupt, 1, 0), (0, 0, vec![]));
+        assert_eq!(make(&mut table, Continue, 1, 0), (0, 0, vec![(0, 1)]));
+        // A flag nobody polled does not mask the interrupt.
+        assert_eq!(make(&mut table, Interrupt, 1, 0), (0, 0, vec![]));
+    }
+
+    #[test]
+    fn two_grants_by_rising_unit() {
+        let mut table = Table::fresh(3, 1, 1, 0).unwrap();
+        make(&mut table, Request, 0, 0);
+        make(&mut table, Poll, 0, 0);
+        make(&mut table, Nest, 0, 1);
+        make(&mut table, Poll, 0, 0);
+        make(&mut table, Request, 2, 1);
+        make(&mut table, Request, 1, 0);
+        assert_eq!(make(&mut table, Leave, 0, 0), (0, 0, vec![(0, 1), (1, 2)]));
+    }
+
+    #[test]
+    fn soundness_at_the_window() {
+        let mut table = Table::fresh(1, 1, 0, 100).unwrap();
+        make(&mut table, Request, 0, 0);
+        for (ahead, expected) in [(0, false), (1, true), (32_768, true), (32_769, false)] {
+            table.counter = 100u16.wrapping_add(ahead);
+            assert_eq!(table.sound(), expected, "{ahead}");
+        }
+    }
+}
