@@ -8,7 +8,9 @@ pub mod Along
 pub mod Picking
 pub mod Allows
 pub mod Touching
+pub mod Settling
 pub mod Standing
 pub mod Stepping
+pub mod Judging
 pub mod Answering
 pub mod Determined

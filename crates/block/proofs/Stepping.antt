@@ -7,18 +7,18 @@ use mathlib.Core.Path.{_≡_, refl, sym, _∙_, ap, ap₂, subst}
 use native.Mathlib.Omega.{arith}
 use lib.Dec.{eqb}
 use lib.ListN.{getD, set}
-use lib.Seq.{getD-set-other}
+use lib.Seq.{getD-set-other, set-getD}
 use borrow.Author.Tests.{eqb-true, eq-eqb, ne-eqb}
 use Rattle.ticket.specs.declared.kinds.Ticket.{Ticket}
 use Rattle.ticket.specs.declared.kinds.UnitNo.{UnitNo}
 use Rattle.block.specs.Fold.{one}
 use Rattle.block.specs.State.{isIdle, stands, holdsBoth, twoStage, waits}
-use Rattle.block.specs.Table.{cores, units, blank, standing, noUnit, core, coreOf, unitOf, registerIn, registerOf, withRegister, withCore}
+use Rattle.block.specs.Table.{cores, units, blank, standing, idle, noUnit, core, coreOf, unitOf, registerIn, registerOf, withUnit, withRegister, withCore}
 use Rattle.block.specs.Settle.{flags, next}
 use Rattle.block.specs.Sound as S
 use Rattle.block.specs.Sound.{sound}
 use Rattle.block.specs.Steps.{settled, giveUp, entered, freed, awaited, served, heir, inherited, carrying, notYet, granted, polled}
-use Rattle.block.specs.Touched.{Calm, CalmTable, unsettled, settledOne, settledTwo}
+use Rattle.block.specs.Touched.{Calm, CalmTable, unsettled, registered, changed, freedTwo}
 use Rattle.block.specs.declared.table.Register.{Register}
 use Rattle.block.specs.declared.table.LockUnit.{LockUnit}
 use Rattle.block.specs.declared.table.Core.{Core}
@@ -59,17 +59,15 @@ calm-elsewhere t u k r calm v l d = subst Calm (sym (unit-other t u v _ d)) (cal
 
 -- entering a unit touches that unit
 pub enters :
-    (t t1 t2 : Table) (k : ℕ) (u : UnitNo) (n : Ticket) (c : Core) (r : Register) (x : Stepped) →
+    (t : Table) (k : ℕ) (u : UnitNo) (n : Ticket) (c : Core) (r : Register) (x : Stepped) →
     u .0 < units →
     CalmTable t →
     r ≡ standing n →
-    t1 ≡ withRegister t (u .0) k r →
-    t2 ≡ withCore t1 k c →
-    x ≡ settledOne t2 u Done n →
+    x ≡ changed t k c u r n →
     x ≡ entered t k (u .0) n c
-enters t t1 t2 k u n c r x h calm er e1 e2 ex =
+enters t k u n c r x h calm er ex =
     ex ∙
-    ap (λ (y : Table). settledOne y u Done n) (e2 ∙ ap (λ (y : Table). withCore y k c) (e1 ∙ ap (withRegister t (u .0) k) er)) ∙
+    ap (λ (y : Register). changed t k c u y n) er ∙
     settled-one (withCore (withRegister t (u .0) k (standing n)) k c) u Done n h (calm-elsewhere t (u .0) k (standing n) calm)
 
 -- a core's register at its first unit cleared, and those at both
@@ -108,19 +106,14 @@ module _ (t : Table) (k : ℕ) (h : k < cores) (s : sound t ≡ true) (at : stan
   two-calm v l d d' = subst Calm (sym (unit-other (oneCleared t k) (was .second .0) v _ d')) (one-calm v l d)
 
   module _ (c : Core) (n : Ticket) (x : Stepped) where
-    pub frees-one :
-        twoStage (was .state) ≡ false →
-        x ≡ settledOne (withCore (oneCleared t k) k c) (was .first) Done n →
-        x ≡ freed t k c n
-    frees-one one e =
+    pub frees-one : (r : Register) → twoStage (was .state) ≡ false → r ≡ blank → x ≡ changed t k c (was .first) r n → x ≡ freed t k c n
+    frees-one r one er e =
         e ∙
+        ap (λ (y : Register). changed t k c (was .first) y n) er ∙
         settled-one (withCore (oneCleared t k) k c) (was .first) Done n first-unit one-calm ∙
         ap (λ (y : Table). settled (withCore y k c) Done n) (sym (clears-one one))
 
-    pub frees-two :
-        twoStage (was .state) ≡ true →
-        x ≡ settledTwo (withCore (twoCleared t k) k c) (was .first) (was .second) Done n →
-        x ≡ freed t k c n
+    pub frees-two : twoStage (was .state) ≡ true → x ≡ freedTwo t k c (was .first) (was .second) n → x ≡ freed t k c n
     frees-two two e =
         let b = second-unit two in
         e ∙
@@ -227,39 +220,88 @@ module _ (t : Table) (k : ℕ) (h : k < cores) (s : sound t ≡ true) (w : waits
         pick true e = refl
         pick false e = absurd (clash e refl)
 
--- a poll that finds the flag set
-pub grants :
-    (t t' : Table) (k : ℕ) (d : Core) (z : State) (x : Stepped) →
-    CalmTable t →
-    z ≡ served (coreOf t k .state) →
-    d ≡ core (coreOf t k .own) (coreOf t k .carried) (coreOf t k .first) (coreOf t k .second) z →
-    t' ≡ withCore t k d →
-    x ≡ unsettled t' Granted (coreOf t k .carried) →
-    x ≡ granted t k
-grants t t' k d z x calm ez ed et ex =
-    let c = coreOf t k in
-    let d' : d ≡ core (c .own) (c .carried) (c .first) (c .second) (served (c .state)) = ed ∙ ap (core (c .own) (c .carried) (c .first) (c .second)) ez in
-    ex ∙
-    ap (λ (y : Table). unsettled y Granted (c .carried)) (et ∙ ap (withCore t k) d') ∙
-    settled-none (withCore t k (core (c .own) (c .carried) (c .first) (c .second) (served (c .state)))) Granted (c .carried) calm
-
--- the flag that decides a poll
-module _ (t : Table) (k u : ℕ) (x : Stepped) (at : u ≡ awaited (coreOf t k)) where
-  at-awaited : registerOf t u k .flag ≡ registerOf t (awaited (coreOf t k)) k .flag
-  at-awaited = ap (λ (v : ℕ). registerOf t v k .flag) at
-
-  pub looks-set : registerOf t u k .flag ≡ true → x ≡ granted t k → x ≡ polled t k
-  looks-set flag e = e ∙ ap (λ (b : Bool). cond b (granted t k) (notYet t k)) (sym flag ∙ at-awaited)
-
-  pub looks-clear : registerOf t u k .flag ≡ false → x ≡ notYet t k → x ≡ polled t k
-  looks-clear flag e = e ∙ ap (λ (b : Bool). cond b (granted t k) (notYet t k)) (sym flag ∙ at-awaited)
-
-pub looks-at :
-    (t : Table) (k u : ℕ) → u ≡ awaited (coreOf t k) → registerOf t u k .flag ≡ false → registerOf t (awaited (coreOf t k)) k .flag ≡ false
-looks-at t k u at flag = ap (λ (v : ℕ). registerOf t v k .flag) (sym at) ∙ flag
-
 -- at the second stage the awaited unit is the second
 pub awaited-second :
     (t : Table) (k : ℕ) → twoStage (coreOf t k .state) ≡ true → registerOf t (awaited (coreOf t k)) k .flag ≡ false → registerOf t (coreOf t k .second .0) k .flag ≡ false
 awaited-second t k two flag =
     ap (λ (b : Bool). registerOf t (cond b (coreOf t k .second .0) (coreOf t k .first .0)) k .flag) (sym two) ∙ flag
+
+-- the poll whole: core k is c, u is the unit that it waits for, and d what it becomes
+module _
+    (t : Table)
+    (k u : ℕ)
+    (h : k < cores)
+    (s : sound t ≡ true)
+    (w : waits (coreOf t k .state) ≡ true)
+    (c : Core)
+    (is : c ≡ coreOf t k)
+    (at : u ≡ awaited c)
+  where
+    abbrev now : Core
+    now = coreOf t k
+
+    pub awaits-unit : u < units
+    awaits-unit = subst (λ (v : ℕ). v < units) (sym (at ∙ ap awaited is)) (awaits-in t k h s w)
+
+    pub awaits-first : c .first .0 < units
+    awaits-first = subst (λ (b : Core). b .first .0 < units) (sym is) (first-unit t k h s (waiting-stands (now .state) w))
+
+    decided : (b : Bool) → registerOf t u k .flag ≡ b → cond b (granted t k) (notYet t k) ≡ polled t k
+    decided b e = ap (λ (a : Bool). cond a (granted t k) (notYet t k)) (sym e ∙ ap (λ (v : ℕ). registerOf t v k .flag) (at ∙ ap awaited is))
+
+    pub polls-set :
+        (d : Core) (x : Stepped) →
+        registerOf t u k .flag ≡ true →
+        d ≡ core (c .own) (c .carried) (c .first) (c .second) (served (c .state)) →
+        x ≡ unsettled (withCore t k d) Granted (c .carried) →
+        x ≡ polled t k
+    polls-set d x flag ed ex =
+        ex ∙
+        ap (λ (y : Core). unsettled (withCore t k y) Granted (c .carried)) ed ∙
+        ap (λ (b : Core). unsettled (withCore t k (core (b .own) (b .carried) (b .first) (b .second) (served (b .state)))) Granted (b .carried)) is ∙
+        settled-none (withCore t k (core (now .own) (now .carried) (now .first) (now .second) (served (now .state)))) Granted (now .carried) (sound-calm t (parts t s)) ∙
+        decided true flag
+
+    stage : (b : Bool) → twoStage (c .state) ≡ b → twoStage (now .state) ≡ b
+    stage b e = ap (λ (d : Core). twoStage (d .state)) (sym is) ∙ e
+
+    pub polls-heir :
+        (b : Best) (n : Ticket) (r : Register) (z : LockUnit) (d : Core) (x : Stepped) →
+        registerOf t u k .flag ≡ false →
+        twoStage (c .state) ≡ true →
+        b ≡ next (unitOf t (c .first .0)) →
+        n ≡ heir (c .carried) b →
+        r ≡ standing n →
+        z ≡ registered (unitOf t u) k r →
+        d ≡ core (c .own) n (c .first) (c .second) (c .state) →
+        x ≡ unsettled (withCore (withUnit t u z) k d) NotYet n →
+        x ≡ polled t k
+    polls-heir b n r z d x flag two eb en er ez ed ex =
+        let e : withCore (withUnit t u z) k d ≡ carrying t k n =
+        ap (withCore (withUnit t u z) k) ed ∙
+        ap (λ (y : LockUnit). withCore (withUnit t u y) k (core (c .own) n (c .first) (c .second) (c .state))) (ez ∙ ap (registered (unitOf t u) k) er) ∙
+        ap (λ (v : ℕ). withCore (withRegister t v k (standing n)) k (core (c .own) n (c .first) (c .second) (c .state))) (at ∙ ap (λ (a : Bool). cond a (c .second .0) (c .first .0)) two) ∙
+        ap (λ (m : Core). withCore (withRegister t (m .second .0) k (standing n)) k (core (m .own) n (m .first) (m .second) (m .state))) is in
+        let clear = awaited-second t k (stage true two) (ap (λ (v : ℕ). registerOf t v k .flag) (sym (at ∙ ap awaited is)) ∙ flag) in
+        inherits t k h s w (stage true two) clear x (withCore (withUnit t u z) k d) b n
+        (eb ∙ ap (λ (m : Core). next (unitOf t (m .first .0))) is)
+        (en ∙ ap (λ (m : Core). heir (m .carried) b) is)
+        e
+        ex ∙
+        decided false flag
+
+    -- the core is written as it was
+    pub polls-wait :
+        (x : Stepped) →
+        registerOf t u k .flag ≡ false →
+        twoStage (c .state) ≡ false →
+        x ≡ unsettled (withCore t k c) NotYet (c .carried) →
+        x ≡ polled t k
+    polls-wait x flag one ex =
+        let same : withCore t k now ≡ t =
+        ap (λ (l : List Core). record { units = t .units; cores = l; counts = t .counts; counter = t .counter }) (set-getD (t .cores) k idle) in
+        waits-on t k h s w x (stage false one)
+        (ex ∙
+        ap (λ (m : Core). unsettled (withCore t k m) NotYet (m .carried)) is ∙
+        ap (λ (y : Table). unsettled y NotYet (now .carried)) same) ∙
+        decided false flag

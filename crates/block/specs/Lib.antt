@@ -8,4 +8,6 @@ pub mod Sound
 pub mod Verdict
 pub mod Steps
 pub mod Touched
+pub mod Judged
+pub mod Seen
 pub mod Parts

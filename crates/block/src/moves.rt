@@ -1,6 +1,7 @@
 // The moves that the steps are made of: enter a unit, give up registers, change a core.
 use crate::table::Core;
 use crate::table::Fill;
+use crate::table::LockUnit;
 use crate::table::Register;
 use crate::table::State;
 use crate::table::Table;
@@ -8,7 +9,8 @@ use ticket::Ticket;
 use ticket::UnitNo;
 ghost use mathlib.Core.Path.{_≡_};
 ghost use Prim.Native.Nat.{_<_};
-ghost use Rattle.block.specs.Table.{cores, units, blank, standing, withRegister, withCore, withCounter, core};
+ghost use Rattle.block.specs.Table.{cores, blank, standing, withCounter, core};
+ghost use Rattle.block.specs.Touched.{registered};
 
 // A register that nobody stands in.
 pub(crate) fn blank() -> Register
@@ -52,32 +54,23 @@ pub(crate) fn core(
     }
 }
 
+impl LockUnit {
+    // Core k's register becomes r.
+    pub(crate) fn with_register(mut self, k: usize, r: Register) -> LockUnit
+        requires { ⌜ k < cores ⌝ }
+        ensures { λ x. ⌜ x ≡ registered self k r ⌝ }
+    {
+        self.registers[k] = r;
+        self
+    }
+}
+
 impl Table {
     // The counter moves to n.
     pub(crate) fn with_counter(mut self, n: Ticket) -> Table
         ensures { λ x. ⌜ x ≡ withCounter self n ⌝ }
     {
         self.counter = n;
-        self
-    }
-
-    // Core k's register at unit u becomes r.
-    pub(crate) fn with_register(mut self, u: usize, k: usize, r: Register) -> Table
-        requires { ⌜ (u < units) × (k < cores) ⌝ }
-        ensures { λ x. ⌜ x ≡ withRegister self u k r ⌝ }
-    {
-        let mut unit = self.units[u];
-        unit.registers[k] = r;
-        self.units[u] = unit;
-        self
-    }
-
-    // Core k becomes c.
-    pub(crate) fn with_core(mut self, k: usize, c: Core) -> Table
-        requires { ⌜ k < cores ⌝ }
-        ensures { λ x. ⌜ x ≡ withCore self k c ⌝ }
-    {
-        self.cores[k] = c;
         self
     }
 }

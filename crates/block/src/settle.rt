@@ -7,10 +7,9 @@ use ticket::CoreNo;
 use ticket::Ticket;
 use ticket::older;
 ghost use mathlib.Core.Path.{_≡_};
-ghost use Prim.Native.Nat.{_<_};
 ghost use Rattle.block.specs.Fold.{one};
-ghost use Rattle.block.specs.Table.{units};
-ghost use Rattle.block.specs.Settle.{flags, inLine, better, next, Within, give, settleAt};
+ghost use Rattle.block.specs.Settle.{flags, inLine, better, next, Within};
+ghost use Rattle.block.specs.Touched.{givenUnit, settledUnit};
 
 // The core that is next in line at a unit, and its ticket.
 pub enum Best {
@@ -18,7 +17,13 @@ pub enum Best {
     Core(CoreNo, Ticket),
 }
 
-// A table after one unit settled, and the core that it granted.
+// A unit after it settled, and the core that it granted.
+pub struct SettledUnit {
+    pub unit: LockUnit,
+    pub winner: Best,
+}
+
+// The same of a whole table, which the specification speaks of.
 pub struct Settled {
     pub table: Table,
     pub winner: Best,
@@ -85,43 +90,35 @@ pub(crate) fn next(x: LockUnit) -> Best
     best
 }
 
-impl Table {
-    // Unit u settles: without a flag, it sets that of the core next in line.
-    pub(crate) fn settle_at(self, u: usize) -> Settled
-        requires { ⌜ u < units ⌝ }
-        ensures { λ r. ⌜ r ≡ settleAt self u ⌝ }
-    {
-        let x = self.units[u];
-        if flags(x) == 0 {
-            self.give(u, next(x))
-        } else {
-            self.give(u, Best::Nobody)
+// The flag of the core that won unit x is set.
+fn given(x: LockUnit, winner: Best) -> SettledUnit
+    requires { ⌜ Within winner ⌝ }
+    ensures { λ r. ⌜ r ≡ givenUnit x winner ⌝ }
+{
+    match winner {
+        Best::Nobody => SettledUnit { unit: x, winner },
+        Best::Core(k, _) => {
+            let i = k.0 as usize;
+            let r = x.registers[i];
+            let t = r.ticket;
+            let f = Register {
+                ticket: t,
+                valid: r.valid,
+                flag: true,
+            };
+            let unit = x.with_register(i, f);
+            SettledUnit { unit, winner }
         }
     }
+}
 
-    // The flag of the core that won unit u is set.
-    fn give(self, u: usize, winner: Best) -> Settled
-        requires { ⌜ (u < units) × Within winner ⌝ }
-        ensures { λ r. ⌜ r ≡ give self u winner ⌝ }
-    {
-        match winner {
-            Best::Nobody => Settled {
-                table: self,
-                winner,
-            },
-            Best::Core(k, _) => {
-                let i = k.0 as usize;
-                let x = self.units[u];
-                let r = x.registers[i];
-                let t = r.ticket;
-                let f = Register {
-                    ticket: t,
-                    valid: r.valid,
-                    flag: true,
-                };
-                let table = self.with_register(u, i, f);
-                Settled { table, winner }
-            }
-        }
+// A unit settles: without a flag, it sets that of the core next in line.
+pub(crate) fn settle_unit(x: LockUnit) -> SettledUnit
+    ensures { λ r. ⌜ r ≡ settledUnit x ⌝ }
+{
+    if flags(x) == 0 {
+        given(x, next(x))
+    } else {
+        given(x, Best::Nobody)
     }
 }

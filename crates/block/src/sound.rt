@@ -10,6 +10,7 @@ use crate::state::two_stage;
 use crate::state::unserved;
 use crate::table::CORES;
 use crate::table::Core;
+use crate::table::Counts;
 use crate::table::LockUnit;
 use crate::table::Register;
 use crate::table::Table;
@@ -17,11 +18,16 @@ use crate::table::UNITS;
 use ticket::Ticket;
 use ticket::behind;
 use ticket::older;
+ghost use mathlib.Core.Bool.{_&&_, _||_};
 ghost use mathlib.Core.Path.{_≡_};
 ghost use Prim.Native.Nat.{_<_};
+ghost use lib.Dec.{ltb};
+ghost use lib.ListN.{getD};
 ghost use Rattle.block.specs.Fold.{some, every};
-ghost use Rattle.block.specs.Table.{cores, units, coreOf, registerIn};
-ghost use Rattle.block.specs.Sound.{within, idleBlank, names, named, isBlank, shows, agrees, anyValid, oneFlag, recent, differ, lends, inherits, carries, coreSound, unitSound, sound};
+ghost use Rattle.block.specs.State.{isIdle};
+ghost use Rattle.block.specs.Table.{cores, units, idle, registerIn};
+ghost use Rattle.block.specs.Seen.{seen, ofCounts, ofCounter, ofCores, differing};
+ghost use Rattle.block.specs.Sound.{idleBlank, names, named, isBlank, shows, agrees, anyValid, oneFlag, recent, lends, carries, coreSound, unitSound, sound};
 
 impl Table {
     // Whether the table is sound.
@@ -29,19 +35,9 @@ impl Table {
         ensures { λ r. ⌜ r ≡ sound self ⌝ }
     {
         let counts = self.counts;
-        in_range(counts) & self.cores_sound() & self.units_sound()
-    }
-
-    fn cores_sound(self) -> bool
-        ensures { λ r. ⌜ r ≡ every (coreSound self) cores ⌝ }
-    {
-        let mut ok = true;
-        let mut k = 0;
-        while k < CORES {
-            ok = ok & self.core_sound(k);
-            k += 1;
-        }
-        ok
+        let counter = self.counter;
+        let all = self.cores;
+        in_range(counts) & cores_sound(counts, counter, all) & self.units_sound()
     }
 
     fn units_sound(self) -> bool
@@ -50,153 +46,158 @@ impl Table {
         let mut ok = true;
         let mut u = 0;
         while u < UNITS {
-            ok = ok & self.unit_sound(u);
+            let all = self.cores;
+            let x = self.units[u];
+            ok = ok & unit_sound(all, u, x);
             u += 1;
         }
         ok
     }
+}
 
-    // The clauses of core k.
-    fn core_sound(self, k: usize) -> bool
-        requires { ⌜ k < cores ⌝ }
-        ensures { λ r. ⌜ r ≡ coreSound self k ⌝ }
-    {
-        let c = self.cores[k];
-        self.within(k)
-            & idle_blank(c)
-            & self.named(c)
-            & self.recent(c)
-            & self.apart(k)
-            & self.carries(c)
+fn cores_sound(counts: Counts, counter: Ticket, all: [Core; CORES]) -> bool
+    ensures { λ r. ⌜ r ≡ every (coreSound (seen counts counter all)) cores ⌝ }
+{
+    let mut ok = true;
+    let mut k = 0;
+    while k < CORES {
+        ok = ok & core_sound(counts, counter, all, k);
+        k += 1;
     }
+    ok
+}
 
-    // A core past the count is idle.
-    fn within(self, k: usize) -> bool
-        requires { ⌜ k < cores ⌝ }
-        ensures { λ r. ⌜ r ≡ within self k ⌝ }
-    {
-        let c = self.cores[k];
-        let s = c.state;
-        let n = self.counts.cores as usize;
-        (k < n) | is_idle(s)
-    }
+// The clauses of core k.
+fn core_sound(counts: Counts, counter: Ticket, all: [Core; CORES], k: usize) -> bool
+    requires { ⌜ k < cores ⌝ }
+    ensures { λ r. ⌜ r ≡ coreSound (seen counts counter all) k ⌝ }
+{
+    let c = all[k];
+    within(counts, k, c)
+        & idle_blank(c)
+        & named(counts, c)
+        & recent(counter, c)
+        & apart(all, k, c)
+        & carries(all, c)
+}
 
-    // The units that a core names are in the table, and of the right classes.
-    fn named(self, c: Core) -> bool
-        ensures { λ r. ⌜ r ≡ named self c ⌝ }
-    {
-        let s = c.state;
-        is_idle(s) | self.names(c, two_stage(s))
-    }
+// A core past the count is idle.
+fn within(counts: Counts, k: usize, c: Core) -> bool
+    ensures { λ r. ⌜ r ≡ (ltb k (counts .cores) || isIdle (c .state)) ⌝ }
+{
+    let s = c.state;
+    let n = counts.cores as usize;
+    (k < n) | is_idle(s)
+}
 
-    // The same of a core with a ticket, and with two units or one.
-    fn names(self, c: Core, two: bool) -> bool
-        ensures { λ r. ⌜ r ≡ names self c two ⌝ }
-    {
-        let counts = self.counts;
-        let a = c.first.0 as u32;
-        let b = c.second.0 as u32;
-        let first = counts.first as u32;
-        let all = first + counts.second as u32;
-        if two {
-            (a < first) & (first <= b) & (b < all)
-        } else {
-            a < all
-        }
-    }
+// The units that a core names are in the table, and of the right classes.
+fn named(counts: Counts, c: Core) -> bool
+    ensures { λ r. ⌜ r ≡ named (ofCounts counts) c ⌝ }
+{
+    let s = c.state;
+    is_idle(s) | names(counts, c, two_stage(s))
+}
 
-    // The own ticket lies 1 to 32,768 behind the counter.
-    fn recent(self, c: Core) -> bool
-        ensures { λ r. ⌜ r ≡ recent self c ⌝ }
-    {
-        let s = c.state;
-        let own = c.own;
-        let n = self.counter;
-        let d = behind(n, own);
-        is_idle(s) | ((1 <= d) & (d <= 32768))
+// The same of a core with a ticket, and with two units or one.
+fn names(counts: Counts, c: Core, two: bool) -> bool
+    ensures { λ r. ⌜ r ≡ names (ofCounts counts) c two ⌝ }
+{
+    let a = c.first.0 as u32;
+    let b = c.second.0 as u32;
+    let first = counts.first as u32;
+    let all = first + counts.second as u32;
+    if two {
+        (a < first) & (first <= b) & (b < all)
+    } else {
+        a < all
     }
+}
 
-    // No other core has core k's ticket.
-    fn apart(self, k: usize) -> bool
-        requires { ⌜ k < cores ⌝ }
-        ensures { λ r. ⌜ r ≡ every (differ self k) cores ⌝ }
-    {
-        let mut ok = true;
-        let mut j = 0;
-        while j < CORES {
-            ok = ok & self.differ(k, j);
-            j += 1;
-        }
-        ok
-    }
+// The own ticket lies 1 to 32,768 behind the counter.
+fn recent(counter: Ticket, c: Core) -> bool
+    ensures { λ r. ⌜ r ≡ recent (ofCounter counter) c ⌝ }
+{
+    let s = c.state;
+    let own = c.own;
+    let d = behind(counter, own);
+    is_idle(s) | ((1 <= d) & (d <= 32768))
+}
 
-    // Cores k and j are the same, or one of them has no ticket, or their tickets differ.
-    fn differ(self, k: usize, j: usize) -> bool
-        requires { ⌜ (k < cores) × (j < cores) ⌝ }
-        ensures { λ r. ⌜ r ≡ differ self k j ⌝ }
-    {
-        let c = self.cores[k];
-        let d = self.cores[j];
-        let s = c.state;
-        let z = d.state;
-        let a = c.own;
-        let b = d.own;
-        (k == j) | is_idle(s) | is_idle(z) | !(a.0 == b.0)
+// No other core has the ticket of core k, which is c.
+fn apart(all: [Core; CORES], k: usize, c: Core) -> bool
+    ensures { λ r. ⌜ r ≡ every (λ j. differing k c j (getD all j idle)) cores ⌝ }
+{
+    let mut ok = true;
+    let mut j = 0;
+    while j < CORES {
+        let d = all[j];
+        ok = ok & differ(k, c, j, d);
+        j += 1;
     }
+    ok
+}
 
-    // The carried ticket is the own one, or at the second stage an inherited one.
-    fn carries(self, c: Core) -> bool
-        ensures { λ r. ⌜ r ≡ carries self c ⌝ }
-    {
-        let s = c.state;
-        let own = c.own;
-        let carried = c.carried;
-        let second = c.second;
-        let same = carried.0 == own.0;
-        if two_stage(s) {
-            same | (self.lent(c) & older(carried, own))
-        } else {
-            same & (second.0 == 0)
-        }
-    }
+// Cores k and j, which are c and d, are the same, or one of them has no ticket, or their tickets differ.
+fn differ(k: usize, c: Core, j: usize, d: Core) -> bool
+    ensures { λ r. ⌜ r ≡ differing k c j d ⌝ }
+{
+    let s = c.state;
+    let z = d.state;
+    let a = c.own;
+    let b = d.own;
+    (k == j) | is_idle(s) | is_idle(z) | !(a.0 == b.0)
+}
 
-    // Some core waits for or is away from c's first unit, with c's carried ticket for its own.
-    fn lent(self, c: Core) -> bool
-        ensures { λ r. ⌜ r ≡ some (λ j. lends c (coreOf self j)) cores ⌝ }
-    {
-        let mut any = false;
-        let mut j = 0;
-        while j < CORES {
-            let d = self.cores[j];
-            any = any | lends(c, d);
-            j += 1;
-        }
-        any
+// The carried ticket is the own one, or at the second stage an inherited one.
+fn carries(all: [Core; CORES], c: Core) -> bool
+    ensures { λ r. ⌜ r ≡ carries (ofCores all) c ⌝ }
+{
+    let s = c.state;
+    let own = c.own;
+    let carried = c.carried;
+    let second = c.second;
+    let same = carried.0 == own.0;
+    if two_stage(s) {
+        same | (lent(all, c) & older(carried, own))
+    } else {
+        same & (second.0 == 0)
     }
+}
 
-    // The clauses of unit u.
-    fn unit_sound(self, u: usize) -> bool
-        requires { ⌜ u < units ⌝ }
-        ensures { λ r. ⌜ r ≡ unitSound self u ⌝ }
-    {
-        let x = self.units[u];
-        self.agree(u, x) & one_flag(x)
+// Some core waits for or is away from c's first unit, with c's carried ticket for its own.
+fn lent(all: [Core; CORES], c: Core) -> bool
+    ensures { λ r. ⌜ r ≡ some (λ j. lends c (getD all j idle)) cores ⌝ }
+{
+    let mut any = false;
+    let mut j = 0;
+    while j < CORES {
+        let d = all[j];
+        any = any | lends(c, d);
+        j += 1;
     }
+    any
+}
 
-    // The registers of unit u, which is x, agree with every core's state.
-    fn agree(self, u: usize, x: LockUnit) -> bool
-        ensures { λ r. ⌜ r ≡ every (λ k. agrees (coreOf self k) u (registerIn x k)) cores ⌝ }
-    {
-        let mut ok = true;
-        let mut k = 0;
-        while k < CORES {
-            let c = self.cores[k];
-            let r = x.registers[k];
-            ok = ok & agrees(c, u, r);
-            k += 1;
-        }
-        ok
+// The clauses of unit u, which is x.
+fn unit_sound(all: [Core; CORES], u: usize, x: LockUnit) -> bool
+    ensures { λ r. ⌜ r ≡ (every (λ k. agrees (getD all k idle) u (registerIn x k)) cores && oneFlag x) ⌝ }
+{
+    agree(all, u, x) & one_flag(x)
+}
+
+// The registers of unit u, which is x, agree with every core's state.
+fn agree(all: [Core; CORES], u: usize, x: LockUnit) -> bool
+    ensures { λ r. ⌜ r ≡ every (λ k. agrees (getD all k idle) u (registerIn x k)) cores ⌝ }
+{
+    let mut ok = true;
+    let mut k = 0;
+    while k < CORES {
+        let c = all[k];
+        let r = x.registers[k];
+        ok = ok & agrees(c, u, r);
+        k += 1;
     }
+    ok
 }
 
 // An idle core has ticket 0, and names no unit.

@@ -15,20 +15,27 @@ use crate::table::Core;
 use crate::table::State;
 use crate::table::Table;
 use crate::verdict::Verdict;
+use crate::verdict::core_at;
+use crate::verdict::may_come_back;
+use crate::verdict::may_interrupt;
+use crate::verdict::may_nest;
+use crate::verdict::may_poll;
+use crate::verdict::may_release;
+use crate::verdict::may_request;
 use ticket::CoreNo;
-use ticket::IssuingUnit;
 use ticket::Ticket;
 use ticket::UnitNo;
 use ticket::older;
-ghost use mathlib.Core.Bool.{true, false};
+use ticket::take;
+ghost use mathlib.Core.Bool.{true};
 ghost use mathlib.Core.Path.{_≡_};
 ghost use Prim.Native.Nat.{_<_};
-ghost use Rattle.block.specs.State.{waits, stands};
-ghost use Rattle.block.specs.Table.{cores, units, blank, coreOf, registerOf, withRegister, withCore};
+ghost use Rattle.block.specs.State.{waits};
+ghost use Rattle.block.specs.Table.{cores, units, core, coreOf};
 ghost use Rattle.block.specs.Sound.{sound};
-ghost use Rattle.block.specs.Touched.{CalmTable, unsettled, settledOne, settledTwo};
+ghost use Rattle.block.specs.Touched.{CalmTable, unsettled};
 ghost use Rattle.block.specs.Verdict.{answered, mayRequest, mayNest, mayPoll, mayInterrupt, mayComeBack, mayRelease};
-ghost use Rattle.block.specs.Steps.{entered, freed, requested, nested, interrupted, cameBack, released, awaited, served, heir, carrying, notYet, granted, polled, onSound, step};
+ghost use Rattle.block.specs.Steps.{entered, requested, nested, interrupted, cameBack, released, awaited, served, heir, polled, onSound, step};
 
 impl Table {
     // One step. A table that is not sound is refused with 16.
@@ -62,12 +69,16 @@ impl Table {
         requires { ⌜ sound self ≡ true ⌝ }
         ensures { λ r. ⌜ r ≡ answered self (mayRequest self k u) (requested self (k .0) u) ⌝ }
     {
-        match self.may_request(k, u) {
+        let counts = self.counts;
+        let counter = self.counter;
+        let cores = self.cores;
+        let was = core_at(cores, k);
+        let s = was.state;
+        match may_request(counts, cores, counter, k, s, u) {
             Verdict::Refused(a) => refused(self, a),
             Verdict::Allowed => {
                 let i = k.0 as usize;
-                let counter = self.counter;
-                let issued = IssuingUnit { counter }.issue();
+                let issued = take(counter);
                 let n = issued.ticket;
                 let unit = issued.unit;
                 let c = core(n, n, u, UnitNo(0), State::Waiting);
@@ -81,13 +92,16 @@ impl Table {
         requires { ⌜ sound self ≡ true ⌝ }
         ensures { λ r. ⌜ r ≡ answered self (mayNest self k u) (nested self (k .0) u) ⌝ }
     {
-        match self.may_nest(k, u) {
+        let counts = self.counts;
+        let cores = self.cores;
+        let c = core_at(cores, k);
+        let s = c.state;
+        let own = c.own;
+        let first = c.first;
+        match may_nest(counts, k, s, first, u) {
             Verdict::Refused(a) => refused(self, a),
             Verdict::Allowed => {
                 let i = k.0 as usize;
-                let c = self.cores[i];
-                let own = c.own;
-                let first = c.first;
                 let d = core(own, own, first, u, State::WaitingSecond);
                 self.enter(i, u, own, d)
             }
@@ -99,15 +113,23 @@ impl Table {
         requires { ⌜ sound self ≡ true ⌝ }
         ensures { λ r. ⌜ r ≡ answered self (mayInterrupt self k) (interrupted self (k .0)) ⌝ }
     {
-        match self.may_interrupt(k) {
+        let counts = self.counts;
+        let cores = self.cores;
+        let c = core_at(cores, k);
+        let s = c.state;
+        let own = c.own;
+        let first = c.first;
+        let second = c.second;
+        match may_interrupt(counts, k, s) {
             Verdict::Refused(a) => refused(self, a),
             Verdict::Allowed => {
                 let i = k.0 as usize;
-                let c = self.cores[i];
-                let own = c.own;
-                let first = c.first;
                 let d = core(own, own, first, UnitNo(0), State::Away);
-                self.free(i, d, own)
+                if two_stage(s) {
+                    self.free_two(i, d, first, second, own)
+                } else {
+                    self.change(i, d, first, blank(), own)
+                }
             }
         }
     }
@@ -117,13 +139,16 @@ impl Table {
         requires { ⌜ sound self ≡ true ⌝ }
         ensures { λ r. ⌜ r ≡ answered self (mayComeBack self k) (cameBack self (k .0)) ⌝ }
     {
-        match self.may_come_back(k) {
+        let counts = self.counts;
+        let cores = self.cores;
+        let c = core_at(cores, k);
+        let s = c.state;
+        let own = c.own;
+        let first = c.first;
+        match may_come_back(counts, k, s) {
             Verdict::Refused(a) => refused(self, a),
             Verdict::Allowed => {
                 let i = k.0 as usize;
-                let c = self.cores[i];
-                let own = c.own;
-                let first = c.first;
                 let d = core(own, own, first, UnitNo(0), State::Waiting);
                 self.enter(i, first, own, d)
             }
@@ -135,13 +160,22 @@ impl Table {
         requires { ⌜ sound self ≡ true ⌝ }
         ensures { λ r. ⌜ r ≡ answered self (mayRelease self k) (released self (k .0)) ⌝ }
     {
-        match self.may_release(k) {
+        let counts = self.counts;
+        let cores = self.cores;
+        let c = core_at(cores, k);
+        let s = c.state;
+        let own = c.own;
+        let first = c.first;
+        let second = c.second;
+        match may_release(counts, k, s) {
             Verdict::Refused(a) => refused(self, a),
             Verdict::Allowed => {
                 let i = k.0 as usize;
-                let c = self.cores[i];
-                let own = c.own;
-                self.free(i, idle(), own)
+                if two_stage(s) {
+                    self.free_two(i, idle(), first, second, own)
+                } else {
+                    self.change(i, idle(), first, blank(), own)
+                }
             }
         }
     }
@@ -151,11 +185,15 @@ impl Table {
         requires { ⌜ sound self ≡ true ⌝ }
         ensures { λ r. ⌜ r ≡ answered self (mayPoll self k) (polled self (k .0)) ⌝ }
     {
-        match self.may_poll(k) {
+        let counts = self.counts;
+        let cores = self.cores;
+        let c = core_at(cores, k);
+        let s = c.state;
+        match may_poll(counts, k, s) {
             Verdict::Refused(a) => refused(self, a),
             Verdict::Allowed => {
                 let i = k.0 as usize;
-                self.look(i)
+                self.look(i, c)
             }
         }
     }
@@ -166,121 +204,64 @@ impl Table {
         requires { ⌜ CalmTable self ⌝ }
         ensures { λ r. ⌜ r ≡ entered self k (u .0) n c ⌝ }
     {
-        let i = u.0 as usize;
-        self.with_register(i, k, standing(n))
-            .with_core(k, c)
-            .settle_one(u, Answer::Done, n)
+        self.change(k, c, u, standing(n), n)
     }
 
-    // Core k, which becomes c, gives up every register, and the units that it stood at settle.
-    fn free(self, k: usize, c: Core, n: Ticket) -> Stepped
-        requires { ⌜ k < cores ⌝ }
-        requires { ⌜ sound self ≡ true ⌝ }
-        requires { ⌜ stands (coreOf self k .state) ≡ true ⌝ }
-        ensures { λ r. ⌜ r ≡ freed self k c n ⌝ }
-    {
-        let old = self.cores[k];
-        let s = old.state;
-        let first = old.first;
-        let second = old.second;
-        if two_stage(s) {
-            self.free_two(k, first, second, c, n)
-        } else {
-            self.free_one(k, first, c, n)
-        }
-    }
-
-    fn free_one(self, k: usize, u: UnitNo, c: Core, n: Ticket) -> Stepped
-        requires { ⌜ (k < cores) × (u .0 < units) ⌝ }
-        ensures { λ r. ⌜ r ≡ settledOne (withCore (withRegister self (u .0) k blank) k c) u Answer.Done n ⌝ }
-    {
-        let i = u.0 as usize;
-        self.with_register(i, k, blank())
-            .with_core(k, c)
-            .settle_one(u, Answer::Done, n)
-    }
-
-    fn free_two(self, k: usize, u: UnitNo, v: UnitNo, c: Core, n: Ticket) -> Stepped
-        requires { ⌜ (k < cores) × (u .0 < units) × (v .0 < units) ⌝ }
-        ensures { λ r. ⌜ r ≡ settledTwo (withCore (withRegister (withRegister self (u .0) k blank) (v .0) k blank) k c) u v Answer.Done n ⌝ }
-    {
-        let i = u.0 as usize;
-        let j = v.0 as usize;
-        self.with_register(i, k, blank())
-            .with_register(j, k, blank())
-            .with_core(k, c)
-            .settle_two(u, v, Answer::Done, n)
-    }
-
-    // The poll of core k, which waits.
-    fn look(self, k: usize) -> Stepped
+    // The poll of core k, which is c and waits.
+    fn look(mut self, k: usize, c: Core) -> Stepped
         requires { ⌜ k < cores ⌝ }
         requires { ⌜ sound self ≡ true ⌝ }
         requires { ⌜ waits (coreOf self k .state) ≡ true ⌝ }
+        requires { ⌜ c ≡ coreOf self k ⌝ }
         ensures { λ r. ⌜ r ≡ polled self k ⌝ }
     {
-        let c = self.cores[k];
+        let s = c.state;
+        let carried = c.carried;
         let u = awaited(c);
         let x = self.units[u];
         let r = x.registers[k];
         if r.flag {
-            self.grant(k)
-        } else {
-            self.wait_on(k)
-        }
-    }
-
-    // The flag that core k waits for is set: now holds it.
-    fn grant(self, k: usize) -> Stepped
-        requires { ⌜ k < cores ⌝ }
-        requires { ⌜ CalmTable self ⌝ }
-        ensures { λ r. ⌜ r ≡ granted self k ⌝ }
-    {
-        let c = self.cores[k];
-        let own = c.own;
-        let carried = c.carried;
-        let first = c.first;
-        let second = c.second;
-        let s = c.state;
-        let d = core(own, carried, first, second, served(s));
-        quiet(self.with_core(k, d), Answer::Granted, carried)
-    }
-
-    // The flag is clear: at the second stage core k inherits.
-    fn wait_on(self, k: usize) -> Stepped
-        requires { ⌜ k < cores ⌝ }
-        requires { ⌜ sound self ≡ true ⌝ }
-        requires { ⌜ waits (coreOf self k .state) ≡ true ⌝ }
-        requires { ⌜ registerOf self (awaited (coreOf self k)) k .flag ≡ false ⌝ }
-        ensures { λ r. ⌜ r ≡ notYet self k ⌝ }
-    {
-        let c = self.cores[k];
-        let s = c.state;
-        let carried = c.carried;
-        if two_stage(s) {
+            let d = holding(c);
+            self.cores[k] = d;
+            quiet(self, Answer::Granted, carried)
+        } else if two_stage(s) {
             let i = c.first.0 as usize;
-            let x = self.units[i];
-            let n = heir(carried, next(x));
-            quiet(self.carrying(k, n), Answer::NotYet, n)
+            let y = self.units[i];
+            let n = heir(carried, next(y));
+            let z = x.with_register(k, standing(n));
+            let d = carrying(c, n);
+            self.units[u] = z;
+            self.cores[k] = d;
+            quiet(self, Answer::NotYet, n)
         } else {
+            // The core as it was: a table that is written in every case is copied once.
+            self.cores[k] = c;
             quiet(self, Answer::NotYet, carried)
         }
     }
+}
 
-    // The carried ticket of core k becomes n, in its second unit's register too.
-    fn carrying(self, k: usize, n: Ticket) -> Table
-        requires { ⌜ (k < cores) × (coreOf self k .second .0 < units) ⌝ }
-        ensures { λ r. ⌜ r ≡ carrying self k n ⌝ }
-    {
-        let c = self.cores[k];
-        let own = c.own;
-        let first = c.first;
-        let second = c.second;
-        let s = c.state;
-        let d = core(own, n, first, second, s);
-        let j = second.0 as usize;
-        self.with_register(j, k, standing(n)).with_core(k, d)
-    }
+// The core after a poll that found the flag set.
+fn holding(c: Core) -> Core
+    ensures { λ r. ⌜ r ≡ core (c .own) (c .carried) (c .first) (c .second) (served (c .state)) ⌝ }
+{
+    let own = c.own;
+    let carried = c.carried;
+    let first = c.first;
+    let second = c.second;
+    let s = c.state;
+    core(own, carried, first, second, served(s))
+}
+
+// The core with the carried ticket n.
+fn carrying(c: Core, n: Ticket) -> Core
+    ensures { λ r. ⌜ r ≡ core (c .own) n (c .first) (c .second) (c .state) ⌝ }
+{
+    let own = c.own;
+    let first = c.first;
+    let second = c.second;
+    let s = c.state;
+    core(own, n, first, second, s)
 }
 
 // A step after which no unit has anything to settle.

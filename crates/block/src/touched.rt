@@ -2,7 +2,11 @@
 use crate::answer::Answer;
 use crate::answer::Grants;
 use crate::answer::Stepped;
+use crate::moves::blank;
 use crate::settle::Best;
+use crate::settle::settle_unit;
+use crate::table::Core;
+use crate::table::Register;
 use crate::table::Table;
 use ticket::Grant;
 use ticket::Ticket;
@@ -10,10 +14,10 @@ use ticket::UnitNo;
 ghost use mathlib.Core.Path.{_≡_};
 ghost use mathlib.Core.List.{_++_};
 ghost use Prim.Native.Nat.{_<_};
-ghost use Rattle.block.specs.Table.{units};
+ghost use Rattle.block.specs.Table.{cores, units};
 ghost use Rattle.block.specs.Answer.{packed};
 ghost use Rattle.block.specs.Settle.{won};
-ghost use Rattle.block.specs.Touched.{settledOne, settledTwo};
+ghost use Rattle.block.specs.Touched.{changed, freedTwo};
 
 // The grant of a unit that settled.
 fn one_grant(u: UnitNo, w: Best) -> Grants
@@ -39,39 +43,63 @@ fn two_grants(u: UnitNo, w: Best, v: UnitNo, x: Best) -> Grants
 }
 
 impl Table {
-    pub(crate) fn settle_one(self, u: UnitNo, answer: Answer, ticket: Ticket) -> Stepped
-        requires { ⌜ u .0 < units ⌝ }
-        ensures { λ r. ⌜ r ≡ settledOne self u answer ticket ⌝ }
+    // Core k becomes c, its register at unit u becomes r, and the unit settles.
+    pub(crate) fn change(
+        mut self,
+        k: usize,
+        c: Core,
+        u: UnitNo,
+        r: Register,
+        ticket: Ticket,
+    ) -> Stepped
+        requires { ⌜ (k < cores) × (u .0 < units) ⌝ }
+        ensures { λ x. ⌜ x ≡ changed self k c u r ticket ⌝ }
     {
         let i = u.0 as usize;
-        let s = self.settle_at(i);
+        let x = self.units[i];
+        let s = settle_unit(x.with_register(k, r));
         let w = s.winner;
-        let table = s.table;
+        let y = s.unit;
+        self.units[i] = y;
+        self.cores[k] = c;
         let grants = one_grant(u, w);
         Stepped {
-            table,
-            answer,
+            table: self,
+            answer: Answer::Done,
             ticket,
             grants,
         }
     }
 
-    pub(crate) fn settle_two(self, u: UnitNo, v: UnitNo, answer: Answer, ticket: Ticket) -> Stepped
-        requires { ⌜ (u .0 < units) × (v .0 < units) ⌝ }
-        ensures { λ r. ⌜ r ≡ settledTwo self u v answer ticket ⌝ }
+    // Core k becomes c, gives up its registers at units u and v, and both settle.
+    pub(crate) fn free_two(
+        mut self,
+        k: usize,
+        c: Core,
+        u: UnitNo,
+        v: UnitNo,
+        ticket: Ticket,
+    ) -> Stepped
+        requires { ⌜ (k < cores) × (u .0 < v .0) × (v .0 < units) ⌝ }
+        ensures { λ x. ⌜ x ≡ freedTwo self k c u v ticket ⌝ }
     {
         let i = u.0 as usize;
         let j = v.0 as usize;
-        let s = self.settle_at(i);
-        let w = s.winner;
-        let mid = s.table;
-        let z = mid.settle_at(j);
-        let x = z.winner;
-        let table = z.table;
-        let grants = two_grants(u, w, v, x);
+        let x = self.units[i];
+        let y = self.units[j];
+        let s = settle_unit(x.with_register(k, blank()));
+        let z = settle_unit(y.with_register(k, blank()));
+        let a = s.winner;
+        let b = z.winner;
+        let p = s.unit;
+        let q = z.unit;
+        self.units[i] = p;
+        self.units[j] = q;
+        self.cores[k] = c;
+        let grants = two_grants(u, a, v, b);
         Stepped {
-            table,
-            answer,
+            table: self,
+            answer: Answer::Done,
             ticket,
             grants,
         }

@@ -93,7 +93,7 @@ fn step_lines(run: Run, fit: bool, script: &[u8], out: &mut [u8]) -> Stopped
                         return stopped(place, wrote, table, steps, Stop::NoRoom);
                     }
                     Written::NoRoom => {
-                        return stopped(place, wrote, table, steps, Stop::NoRoom);
+                        return stopped(place, wrote, table, steps, Stop::NoRoom); // 23
                     }
                 }
             }

@@ -1,9 +1,26 @@
 -- `block::table::Table::sound` meets its contract: the clauses, each as its function gives it.
 use borrow.Author.Needs.{needs}
-use Rattle.block.specs.Sound.{sound}
+use mathlib.Core.Bool.{Bool, _&&_}
+use mathlib.Core.Path.{_≡_}
+use Rattle.block.specs.Fold.{every}
+use Rattle.block.specs.Table.{cores, units}
+use Rattle.block.specs.Build.{inRange}
+use Rattle.block.specs.Seen.{seen}
+use Rattle.block.specs.Sound.{coreSound, unitSound, sound}
+use Rattle.block.specs.declared.table.Table.{Table}
 use Rattle.block.proofs.Bools.{both}
 use Rattle.block.proofs.table.Table.sound.Statement.{statement}
 use Rattle.block.proofs.table.Table.sound.Tie as tie
+
+-- the clauses of a core read the counts, the counter and the cores alone
+joined :
+    (t : Table) (a b d : Bool) →
+    a ≡ inRange (t .counts) →
+    b ≡ every (coreSound (seen (t .counts) (t .counter) (t .cores))) cores →
+    d ≡ every (unitSound t) units →
+    (a && b && d) ≡ sound t
+unfolding sound coreSound
+joined t a b d counts core unit = both (both counts core) unit
 
 in-range-requires : tie.Need-in-range-requires
 in-range-requires c κs = search needs
@@ -15,8 +32,7 @@ units-sound-requires : tie.Need-units-sound-requires
 units-sound-requires c κs = search needs
 
 returns : tie.Need-returns
-unfolding sound
-returns c = search (both, needs)
+returns c = search joined
 
 pub sound-spec : {M : Type 1} → statement M
 sound-spec =

@@ -1,14 +1,24 @@
 -- `block::table::Table::units_sound` meets its contract: after u turns, ok says whether the first u units are sound.
 use borrow.Author.Needs.{needs}
-use Prim.Native.Nat.{_≤_, _-_}
+use Prim.Native.Nat.{ℕ, _+_, _≤_, _-_}
+use mathlib.Core.Bool.{Bool, _&&_}
 use mathlib.Core.Path.{_≡_}
 use Rattle.block.specs.Fold.{every}
-use Rattle.block.specs.Table.{units}
-use Rattle.block.specs.Sound.{unitSound}
+use Rattle.block.specs.Table.{cores, units, coreOf, unitOf, registerOf}
+use Rattle.block.specs.Sound.{agrees, oneFlag, unitSound}
+use Rattle.block.specs.declared.table.Table.{Table}
 use Rattle.block.proofs.Folds.{none, finished}
 use Rattle.block.proofs.Loops.{every-more}
 use Rattle.block.proofs.table.Table.units_sound.Statement.{statement}
 use Rattle.block.proofs.table.Table.units_sound.Tie as tie
+
+one-more :
+    (t : Table) (u : ℕ) (ok r : Bool) →
+    ok ≡ every (unitSound t) u →
+    r ≡ (every (λ (k : ℕ). agrees (coreOf t k) u (registerOf t u k)) cores && oneFlag (unitOf t u)) →
+    (ok && r) ≡ every (unitSound t) (u + 1)
+unfolding unitSound
+one-more t u ok r so last = every-more (unitSound t) u ok r so last
 
 abbrev Inv-loop : tie.InvT-loop
 Inv-loop self ok₀ u₀ ok u = (u ≤ units) × (ok ≡ every (unitSound self) u)
@@ -18,6 +28,12 @@ abbrev μ-loop : tie.MeasureT-loop
 
 loop-holds : tie.Need-loop-holds Inv-loop μ-loop
 loop-holds c = search (none, needs)
+
+mul-x : tie.Need-mul-x Inv-loop μ-loop
+mul-x c = search needs
+
+element-copy-out-x : tie.Need-element-copy-out-x Inv-loop μ-loop
+element-copy-out-x c = search needs
 
 unit-sound-requires : tie.Need-unit-sound-requires Inv-loop μ-loop
 unit-sound-requires c κs = search needs
@@ -29,7 +45,7 @@ loop-less : tie.Need-loop-less Inv-loop μ-loop
 loop-less c = search needs
 
 loop-again : tie.Need-loop-again Inv-loop μ-loop
-loop-again c = search (every-more, needs)
+loop-again c = search (one-more, needs)
 
 returns : tie.Need-returns Inv-loop μ-loop
 returns c = search (finished, needs)
@@ -37,4 +53,14 @@ returns c = search (finished, needs)
 pub units-sound-spec : {M : Type 1} → statement M
 units-sound-spec =
     tie.close
-    (tie.spec Inv-loop μ-loop loop-holds unit-sound-requires add-u loop-less loop-again returns)
+    (tie.spec
+    Inv-loop
+    μ-loop
+    loop-holds
+    mul-x
+    element-copy-out-x
+    unit-sound-requires
+    add-u
+    loop-less
+    loop-again
+    returns)

@@ -1,0 +1,143 @@
+-- Settling a unit by itself and putting it into the table is settling that unit of the table: its registers are all that settling
+-- reads, and it is the one place that settling writes. Two units that differ settle without minding each other.
+use Prim.Native.Nat.{ℕ, zero, suc, _<_}
+use mathlib.Core.Bool.{Bool, true, false, cond}
+use mathlib.Core.List.{List, [], _∷_, _++_}
+use mathlib.Core.Logic.{_≢_}
+use mathlib.Core.Path.{_≡_, refl, sym, _∙_, ap, subst}
+use native.Mathlib.Omega.{arith}
+use lib.Dec.{eqb}
+use lib.ListN.{getD, set}
+use lib.Seq.{set-set, set-comm}
+use Rattle.ticket.specs.declared.kinds.Ticket.{Ticket}
+use Rattle.ticket.specs.declared.kinds.UnitNo.{UnitNo}
+use Rattle.block.specs.Table.{blank, flagged, noUnit, unitOf, registerIn, withUnit, withRegister, withCore}
+use Rattle.block.specs.Answer.{packed}
+use Rattle.block.specs.Settle.{flags, next, give, settleAt, won}
+use Rattle.block.specs.Touched.{registered, givenUnit, settledUnit, changed, freedTwo}
+use Rattle.block.specs.declared.table.Register.{Register}
+use Rattle.block.specs.declared.table.LockUnit.{LockUnit}
+use Rattle.block.specs.declared.table.Core.{Core}
+use Rattle.block.specs.declared.table.Table.{Table}
+use Rattle.block.specs.declared.settle.Best.{Best}
+use Rattle.block.specs.declared.settle.Best.the-variants.{Nobody, Core as Won}
+use Rattle.block.specs.declared.settle.Settled.{Settled}
+use Rattle.block.specs.declared.settle.SettledUnit.{SettledUnit}
+use Rattle.block.specs.declared.answer.Answer.the-variants.{Done}
+use Rattle.block.specs.declared.answer.Grants.{Grants}
+use Rattle.block.specs.declared.answer.Stepped.{Stepped}
+use Rattle.block.proofs.Access.{unit-other}
+
+-- a unit with a changed register stands where it was put
+there : (l : List LockUnit) (u k : ℕ) (r : Register) → getD (set l u (registered (getD l u noUnit) k r)) u noUnit ≡ registered (getD l u noUnit) k r
+there [] u k r = refl
+there (x ∷ xs) zero k r = refl
+there (x ∷ xs) (suc u) k r = there xs u k r
+
+module _ (t : Table) (u : ℕ) (x : LockUnit) (at : unitOf (withUnit t u x) u ≡ x) where
+  abbrev before : Table
+  before = withUnit t u x
+
+  abbrev put : SettledUnit → Settled
+  put s = record { table = withUnit t u (s .unit); winner = s .winner }
+
+  twice : (y : LockUnit) → withUnit before u y ≡ withUnit t u y
+  twice y i = record { units = set-set (t .units) u x y i; cores = t .cores; counts = t .counts; counter = t .counter }
+
+  put-give : (w : Best) → give before u w ≡ put (givenUnit x w)
+  put-give Nobody = refl
+  put-give (Won k n) =
+      (λ i. record { table = withUnit before u (registered (at i) (k .0) (flagged (registerIn (at i) (k .0)))); winner = Won k n }) ∙
+      (λ i. record { table = twice (registered x (k .0) (flagged (registerIn x (k .0)))) i; winner = Won k n })
+
+  put-settled : settleAt before u ≡ put (settledUnit x)
+  put-settled =
+      ap (λ (z : LockUnit). cond (eqb (flags z) 0) (give before u (next z)) (give before u Nobody)) at ∙ go (eqb (flags x) 0)
+    where
+      go : (b : Bool) → cond b (give before u (next x)) (give before u Nobody) ≡ put (cond b (givenUnit x (next x)) (givenUnit x Nobody))
+      go true = put-give (next x)
+      go false = put-give Nobody
+
+-- a step's end, by its table and its grants
+done : Table → Ticket → Grants → Stepped
+done t n g = record { table = t; answer = Done; ticket = n; grants = g }
+
+-- one unit, from what the calls give
+pub changes :
+    (t : Table) (k : ℕ) (c : Core) (u : UnitNo) (r : Register) (n : Ticket) (x : LockUnit) (s : SettledUnit) (g : Grants) →
+    x ≡ registered (unitOf t (u .0)) k r →
+    s ≡ settledUnit x →
+    g ≡ packed (won (u .0) (s .winner)) →
+    _≡_ {A = Stepped}
+    (record { table = withCore (withUnit t (u .0) (s .unit)) k c; answer = Done; ticket = n; grants = g })
+    (changed t k c u r n)
+unfolding done
+changes t k c u r n x s g ex es eg =
+    let y = registered (unitOf t (u .0)) k r in
+    let e : s ≡ settledUnit y = es ∙ ap settledUnit ex in
+    ap (done (withCore (withUnit t (u .0) (s .unit)) k c) n) eg ∙
+    ap (λ (z : SettledUnit). done (withCore (withUnit t (u .0) (z .unit)) k c) n (packed (won (u .0) (z .winner)))) e ∙
+    ap (λ (z : Settled). done (z .table) n (packed (won (u .0) (z .winner)))) (sym (put-settled (withCore t k c) (u .0) y (there (t .units) (u .0) k r)))
+
+module _ (t : Table) (u v k : ℕ) (d : v ≢ u) where
+  abbrev x : LockUnit
+  x = registered (unitOf t u) k blank
+
+  abbrev y : LockUnit
+  y = registered (unitOf t v) k blank
+
+  swapped : (a b : LockUnit) → withUnit (withUnit t u a) v b ≡ withUnit (withUnit t v b) u a
+  swapped a b i = record { units = set-comm (t .units) u v a b (λ e. d (sym e)) i; cores = t .cores; counts = t .counts; counter = t .counter }
+
+  both-changed : withRegister (withRegister t u k blank) v k blank ≡ withUnit (withUnit t v y) u x
+  both-changed =
+      ap (λ (z : LockUnit). withUnit (withUnit t u x) v (registered z k blank)) (unit-other t u v x d) ∙ swapped x y
+
+  -- with another unit changed before
+  still-there :
+      (w j : ℕ) (z : LockUnit) → j ≢ w →
+      unitOf (withUnit (withUnit t w z) j (registered (unitOf t j) k blank)) j ≡ registered (unitOf t j) k blank
+  still-there w j z e =
+      subst
+      (λ (m : LockUnit). unitOf (withUnit (withUnit t w z) j (registered m k blank)) j ≡ registered m k blank)
+      (unit-other t w j z e)
+      (there (withUnit t w z .units) j k blank)
+
+  first-settles :
+      settleAt (withRegister (withRegister t u k blank) v k blank) u ≡
+      record { table = withUnit (withUnit t v y) u (settledUnit x .unit); winner = settledUnit x .winner }
+  first-settles =
+      ap (λ (m : Table). settleAt m u) both-changed ∙
+      put-settled (withUnit t v y) u x (still-there v u y (λ e. d (sym e)))
+
+  second-settles :
+      (a : LockUnit) →
+      settleAt (withUnit (withUnit t v y) u a) v ≡
+      record { table = withUnit (withUnit t u a) v (settledUnit y .unit); winner = settledUnit y .winner }
+  second-settles a =
+      ap (λ (m : Table). settleAt m v) (sym (swapped a y)) ∙
+      put-settled (withUnit t u a) v y (still-there u v a d)
+
+-- two units, from what the calls give
+pub frees :
+    (t : Table) (k : ℕ) (c : Core) (u v : UnitNo) (n : Ticket) (p q : LockUnit) (s z : SettledUnit) (g : Grants) →
+    u .0 < v .0 →
+    p ≡ registered (unitOf t (u .0)) k blank →
+    q ≡ registered (unitOf t (v .0)) k blank →
+    s ≡ settledUnit p →
+    z ≡ settledUnit q →
+    g ≡ packed (won (u .0) (s .winner) ++ won (v .0) (z .winner)) →
+    _≡_ {A = Stepped}
+    (record { table = withCore (withUnit (withUnit t (u .0) (s .unit)) (v .0) (z .unit)) k c; answer = Done; ticket = n; grants = g })
+    (freedTwo t k c u v n)
+unfolding done
+frees t k c u v n p q s z g l ep eq es ez eg =
+    let d : v .0 ≢ u .0 = λ e. omega arith in
+    let t' = withCore t k c in
+    let a = registered (unitOf t (u .0)) k blank in
+    let b = registered (unitOf t (v .0)) k blank in
+    ap (done (withCore (withUnit (withUnit t (u .0) (s .unit)) (v .0) (z .unit)) k c) n) eg ∙
+    ap (λ (m : SettledUnit). done (withCore (withUnit (withUnit t (u .0) (m .unit)) (v .0) (z .unit)) k c) n (packed (won (u .0) (m .winner) ++ won (v .0) (z .winner)))) (es ∙ ap settledUnit ep) ∙
+    ap (λ (m : SettledUnit). done (withCore (withUnit (withUnit t (u .0) (settledUnit a .unit)) (v .0) (m .unit)) k c) n (packed (won (u .0) (settledUnit a .winner) ++ won (v .0) (m .winner)))) (ez ∙ ap settledUnit eq) ∙
+    ap (λ (m : Settled). done (m .table) n (packed (won (u .0) (settledUnit a .winner) ++ won (v .0) (m .winner)))) (sym (second-settles t' (u .0) (v .0) k d (settledUnit a .unit))) ∙
+    ap (λ (m : Settled). done (settleAt (m .table) (v .0) .table) n (packed (won (u .0) (m .winner) ++ won (v .0) (settleAt (m .table) (v .0) .winner)))) (sym (first-settles t' (u .0) (v .0) k d))

@@ -1,0 +1,17 @@
+-- `block::sound::differ` meets its contract: the definition's own tests, the states' as `is_idle` gives them.
+use borrow.Author.Needs.{needs}
+use Rattle.block.proofs.Bools.{either}
+use Rattle.block.proofs.sound.differ.Statement.{statement}
+use Rattle.block.proofs.sound.differ.Tie as tie
+
+is-idle-requires : tie.Need-is-idle-requires
+is-idle-requires c κs = search needs
+
+is-idle-requires-2 : tie.Need-is-idle-requires-2
+is-idle-requires-2 c κs = search needs
+
+returns : tie.Need-returns
+returns c = search (either, needs)
+
+pub differ-spec : {M : Type 1} → statement M
+differ-spec = tie.close (tie.spec is-idle-requires is-idle-requires-2 returns)

@@ -1,0 +1,34 @@
+-- `block::sound::named` meets its contract: the two tests as `is_idle`, `two_stage` and `names` give them.
+use borrow.Author.Needs.{needs}
+use mathlib.Core.Bool.{Bool, _||_}
+use mathlib.Core.Path.{_≡_, _∙_, ap, ap₂}
+use Rattle.block.specs.State.{isIdle, twoStage}
+use Rattle.block.specs.Seen.{ofCounts}
+use Rattle.block.specs.Sound.{names, named}
+use Rattle.block.specs.declared.table.Core.{Core}
+use Rattle.block.specs.declared.table.Counts.{Counts}
+use Rattle.block.proofs.sound.named.Statement.{statement}
+use Rattle.block.proofs.sound.named.Tie as tie
+
+joined :
+    (n : Counts) (c : Core) (b two r : Bool) →
+    b ≡ isIdle (c .state) →
+    two ≡ twoStage (c .state) →
+    r ≡ names (ofCounts n) c two →
+    (b || r) ≡ named (ofCounts n) c
+joined n c b two r idle says so = ap₂ _||_ idle (so ∙ ap (names (ofCounts n) c) says)
+
+is-idle-requires : tie.Need-is-idle-requires
+is-idle-requires c κs = search needs
+
+two-stage-requires : tie.Need-two-stage-requires
+two-stage-requires c κs = search needs
+
+names-requires : tie.Need-names-requires
+names-requires c κs = search needs
+
+returns : tie.Need-returns
+returns c = search joined
+
+pub named-spec : {M : Type 1} → statement M
+named-spec = tie.close (tie.spec is-idle-requires two-stage-requires names-requires returns)
