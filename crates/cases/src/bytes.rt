@@ -1,0 +1,45 @@
+// Numbers in a case, lowest byte first. What lies past the end reads as 0.
+ghost use Prim.Native.Nat.{_<_};
+
+// The letter of a case.
+pub(crate) fn letter(s: &[u8]) -> u8 {
+    if 0 < s.len() { s[0] } else { 0 }
+}
+
+fn wide(b: u8) -> u16
+    ensures { λ r. ⌜ r < 256 ⌝ }
+{
+    b as u16
+}
+
+pub(crate) fn byte(s: &[u8], at: usize) -> u16
+    ensures { λ r. ⌜ r < 256 ⌝ }
+{
+    if at < s.len() { wide(s[at]) } else { 0 }
+}
+
+pub(crate) fn half(s: &[u8], at: usize) -> u16
+    ensures { λ r. ⌜ r < 65536 ⌝ }
+{
+    if s.len() < 2 {
+        return 0;
+    }
+    if s.len() - 2 < at {
+        return 0;
+    }
+    let low = byte(s, at);
+    let high = byte(s, at + 1);
+    low + 256 * high
+}
+
+pub(crate) fn word(s: &[u8], at: usize) -> u32 {
+    if s.len() < 4 {
+        return 0;
+    }
+    if s.len() - 4 < at {
+        return 0;
+    }
+    let low = half(s, at) as u32;
+    let high = half(s, at + 2) as u32;
+    low + 65536 * high
+}

@@ -1,0 +1,146 @@
+// Images: words read as registers, and registers written as words.
+use crate::bytes::half;
+use crate::bytes::word;
+use crate::register::put_register;
+use crate::table::counts;
+use crate::table::units;
+use crate::text::field;
+use crate::text::head;
+use block::CORES;
+use block::LockUnit;
+use block::Register;
+use block::UNITS;
+use ticket::Ticket;
+use words::ImageAnswer;
+ghost use mathlib.Core.Path.{_≡_};
+ghost use lib.ListN.{length};
+
+// The most words that a case reads or lends.
+pub(crate) const WORDS_MOST: usize = 200;
+
+fn room() -> [u32; WORDS_MOST]
+    ensures { λ r. ⌜ 200 ≡ length r ⌝ }
+{
+    [0; WORDS_MOST]
+}
+
+// Document 01's number for an image's answer.
+fn image_number(a: ImageAnswer) -> u32 {
+    match a {
+        ImageAnswer::Done => 0,
+        ImageAnswer::OutOfRange => 20,
+        ImageAnswer::BadImage => 30,
+    }
+}
+
+pub(crate) fn answer_reading(s: &[u8], out: &mut [u8], wrote: usize) -> usize {
+    let mut space = room();
+    let n = half(s, 7) as usize;
+    if WORDS_MOST < n {
+        return wrote;
+    }
+    let z = 0;
+    reading(s, &mut space[z..n], out, wrote)
+}
+
+// The words of a case.
+fn read_words(s: &[u8], ws: &mut [u32]) {
+    let n = ws.len();
+    if WORDS_MOST < n {
+        return;
+    }
+    let mut i = 0;
+    while i < n {
+        ws[i] = word(s, 9 + 4 * i);
+        i += 1;
+    }
+}
+
+// The image of so many words as are lent for it.
+fn reading(s: &[u8], ws: &mut [u32], out: &mut [u8], wrote: usize) -> usize {
+    read_words(s, ws);
+    let c = counts(s);
+    let x = words::read_image(c, ws);
+    let a = x.answer;
+    let n = image_number(a);
+    let to = head(out, wrote, b"I", n);
+    if n != 0 {
+        return to;
+    }
+    let units = x.units;
+    put_registers(out, to, units, c.cores as usize, ws.len())
+}
+
+// The first n registers of an image, in its order.
+fn put_registers(
+    out: &mut [u8],
+    at: usize,
+    units: [LockUnit; UNITS],
+    cores: usize,
+    n: usize,
+) -> usize {
+    let mut to = at;
+    let mut i = 0;
+    while i < n {
+        let r = register_at(units, cores, i);
+        to = put_register(out, to, r);
+        i += 1;
+    }
+    to
+}
+
+// Register i of an image; a blank one where there is none.
+fn register_at(units: [LockUnit; UNITS], cores: usize, i: usize) -> Register {
+    if cores == 0 {
+        return blank();
+    }
+    let u = i / cores;
+    let k = i % cores;
+    if UNITS <= u {
+        return blank();
+    }
+    if CORES <= k {
+        return blank();
+    }
+    let x = units[u];
+    x.registers[k]
+}
+
+fn blank() -> Register {
+    Register {
+        ticket: Ticket(0),
+        valid: false,
+        flag: false,
+    }
+}
+
+pub(crate) fn answer_writing(s: &[u8], out: &mut [u8], wrote: usize) -> usize {
+    let mut space = room();
+    let n = half(s, 7) as usize;
+    if WORDS_MOST < n {
+        return wrote;
+    }
+    let z = 0;
+    writing(s, &mut space[z..n], out, wrote)
+}
+
+// The image written into the words lent.
+fn writing(s: &[u8], ws: &mut [u32], out: &mut [u8], wrote: usize) -> usize {
+    let a = words::write_image(counts(s), units(s, 9), ws);
+    let n = image_number(a);
+    let to = head(out, wrote, b"O", n);
+    if n != 0 {
+        return to;
+    }
+    put_words(out, to, ws)
+}
+
+fn put_words(out: &mut [u8], at: usize, ws: &[u32]) -> usize {
+    let mut to = at;
+    let mut i = 0;
+    while i < ws.len() {
+        to = field(out, to, ws[i]);
+        i += 1;
+    }
+    to
+}

@@ -1,0 +1,227 @@
+// Answers cases that stand on standard input, on standard output: what is fed when the code is compared
+// with the second implementation.
+//
+// A case is a letter and what follows it. A u16 or u32 has its lowest byte first; a register is a u16
+// ticket, a u8 valid and a u8 flag, each of these 0 or not; an answer is one line, its fields parted by
+// tabs, but for T.
+// - T: u16 length, and so many bytes of script. Answered with what the translator program writes for
+//   that script, and a line `--`.
+// - S: a table. u16 cores, first-class units, second-class units and counter; 8 cores of u16 own,
+//   carried, first and second and u8 state (0 idle, 1 waiting, 2 holding, 3 waiting second, 4 holding
+//   both, from 5 on away); 16 units of 8 registers. `S`, and 1 if it is sound, else 0.
+// - W: u32, a register word. `W`, 30; or `W`, 0, ticket, valid and flag.
+// - P: a register. `P`, 30; or `P`, 0 and its word.
+// - I: u16 cores, first-class units, second-class units and number of words, at most 200; the words, a
+//   u32 each. `I`, 20 or 30; or `I`, 0, and ticket, valid and flag of each register of the image.
+// - O: u16 cores, first-class units, second-class units and number of words lent, at most 200; 16 units
+//   of 8 registers. `O`, 20 or 30; or `O`, 0, and the image's words.
+//
+// A case that the end of the input cuts off, another letter, and a number of words above 200 end the
+// program.
+mod bytes;
+mod image;
+mod register;
+mod script;
+mod table;
+mod text;
+
+use bytes::half;
+use image::WORDS_MOST;
+use libc::STDIN_FILENO;
+use text::eased;
+use text::flush;
+use text::put;
+ghost use mathlib.Core.Path.{_≡_};
+ghost use lib.ListN.{length};
+
+// The place of the next case in the piece, how many bytes of the piece are input, how many bytes of
+// answers wait to be written, and whether to go on.
+struct Progress {
+    at: usize,
+    have: usize,
+    wrote: usize,
+    on: bool,
+}
+
+// What stands at a place: a case that was answered, with the places after it and after its answer; the
+// start of a case; or no case.
+enum Found {
+    Answered(usize, usize),
+    Cut,
+    Unknown,
+}
+
+fn main() {
+    let mut input = piece();
+    let mut out = io::large_buffer();
+    every_turn(&mut input, &mut out);
+}
+
+// Room for the longest case, of 65,538 bytes.
+fn piece() -> [u8; 131072]
+    ensures { λ r. ⌜ 131072 ≡ length r ⌝ }
+{
+    [0; 131072]
+}
+
+// A turn answers a case, reads, or is the last; no input uses them up.
+fn every_turn(input: &mut [u8], out: &mut [u8]) {
+    let mut now = going(0, 0, 0);
+    let mut turns = u64::MAX;
+    while 0 < turns {
+        now = turn(now, input, out);
+        if !now.on {
+            return;
+        }
+        turns -= 1;
+    }
+}
+
+// The next case of the piece, and what follows from what stands there.
+fn turn(p: Progress, input: &mut [u8], out: &mut [u8]) -> Progress {
+    let at = p.at;
+    let have = p.have;
+    let wrote = p.wrote;
+    if input.len() < have {
+        return ended();
+    }
+    let z = 0;
+    match next_case(&input[z..have], at, out, wrote) {
+        Found::Answered(next, w) => going(next, have, w),
+        Found::Cut => read_on(at, have, wrote, input, out),
+        Found::Unknown => {
+            flush(out, wrote);
+            ended()
+        }
+    }
+}
+
+fn going(at: usize, have: usize, wrote: usize) -> Progress {
+    Progress {
+        at,
+        have,
+        wrote,
+        on: true,
+    }
+}
+
+fn ended() -> Progress {
+    Progress {
+        at: 0,
+        have: 0,
+        wrote: 0,
+        on: false,
+    }
+}
+
+// The answers go out before more is waited for. What is left of the piece moves to its front, and more
+// of the input is read after it.
+fn read_on(at: usize, have: usize, wrote: usize, input: &mut [u8], out: &[u8]) -> Progress {
+    if !flush(out, wrote) {
+        return ended();
+    }
+    let rest = keep(input, at, have);
+    let now = read_after(input, rest);
+    if now <= rest {
+        return ended();
+    }
+    going(0, now, 0)
+}
+
+// The bytes from a place on, of those that the piece has, move to its front. Answers how many.
+fn keep(input: &mut [u8], place: usize, have: usize) -> usize {
+    if input.len() < have {
+        return 0;
+    }
+    let mut rest = 0;
+    let mut i = place;
+    while i < have {
+        input[rest] = input[i];
+        rest += 1;
+        i += 1;
+    }
+    rest
+}
+
+// One read into the piece, after the bytes that were kept. Answers how many bytes there are then.
+fn read_after(input: &mut [u8], rest: usize) -> usize {
+    if input.len() < rest {
+        return 0;
+    }
+    let more = &mut input[rest..];
+    let got = libc::read(STDIN_FILENO, more);
+    let n = io::count(got, more);
+    rest + n
+}
+
+// The case at a place is answered if all of it is there.
+fn next_case(s: &[u8], at: usize, out: &mut [u8], wrote: usize) -> Found {
+    if s.len() <= at {
+        return Found::Cut;
+    }
+    let rest = &s[at..];
+    let n = size(rest);
+    if n == 0 {
+        return Found::Unknown;
+    }
+    if rest.len() < n {
+        return Found::Cut;
+    }
+    let next = at + n;
+    let z = 0;
+    let w = answer_line(&rest[z..n], out, wrote);
+    Found::Answered(next, w)
+}
+
+// How many bytes the case at the front has, 0 for none. Where not even its lengths are all there, it is
+// more than there are.
+fn size(s: &[u8]) -> usize {
+    let letter = bytes::letter(s);
+    if letter == b'T' {
+        return 3 + half(s, 1) as usize;
+    }
+    if letter == b'S' {
+        return 593;
+    }
+    if letter == b'W' {
+        return 5;
+    }
+    if letter == b'P' {
+        return 5;
+    }
+    let n = half(s, 7) as usize;
+    if WORDS_MOST < n {
+        return 0;
+    }
+    if letter == b'I' {
+        return 9 + 4 * n;
+    }
+    if letter == b'O' { 521 } else { 0 }
+}
+
+// The answer of a whole case and its line end. Answers the place after it in the output.
+fn answer_line(s: &[u8], out: &mut [u8], wrote: usize) -> usize {
+    let at = eased(out, wrote);
+    let to = answer(s, out, at);
+    put(out, to, b"\n")
+}
+
+fn answer(s: &[u8], out: &mut [u8], wrote: usize) -> usize {
+    let letter = bytes::letter(s);
+    if letter == b'T' {
+        return script::answer(s, out, wrote);
+    }
+    if letter == b'S' {
+        return table::answer(s, out, wrote);
+    }
+    if letter == b'W' {
+        return register::answer_word(s, out, wrote);
+    }
+    if letter == b'P' {
+        return register::answer_register(s, out, wrote);
+    }
+    if letter == b'I' {
+        return image::answer_reading(s, out, wrote);
+    }
+    image::answer_writing(s, out, wrote)
+}

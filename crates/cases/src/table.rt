@@ -1,0 +1,117 @@
+// A table as it stands in a case, and whether it is sound.
+use crate::bytes::byte;
+use crate::bytes::half;
+use crate::register::register;
+use crate::text::bit;
+use crate::text::head;
+use block::CORES;
+use block::Core;
+use block::Counts;
+use block::Fill;
+use block::LockUnit;
+use block::State;
+use block::Table;
+use block::UNITS;
+use ticket::Ticket;
+use ticket::UnitNo;
+ghost use Prim.Native.Nat.{_<_};
+
+pub(crate) fn answer(s: &[u8], out: &mut [u8], wrote: usize) -> usize {
+    let t = table(s);
+    head(out, wrote, b"S", bit(t.sound()))
+}
+
+fn table(s: &[u8]) -> Table {
+    Table {
+        units: units(s, 81),
+        cores: cores(s),
+        counts: counts(s),
+        counter: Ticket(half(s, 7)),
+    }
+}
+
+// The counts, which stand first in a case.
+pub(crate) fn counts(s: &[u8]) -> Counts {
+    Counts {
+        cores: half(s, 1),
+        first: half(s, 3),
+        second: half(s, 5),
+    }
+}
+
+fn cores(s: &[u8]) -> [Core; CORES] {
+    let c = core(s, 0);
+    let mut cs = [c; CORES];
+    let mut k = 0;
+    while k < CORES {
+        cs[k] = core(s, k);
+        k += 1;
+    }
+    cs
+}
+
+// Core k: its nine bytes stand after the counts and the counter.
+fn core(s: &[u8], k: usize) -> Core
+    requires { ⌜ k < 8 ⌝ }
+{
+    let at = 9 + 9 * k;
+    Core {
+        own: Ticket(half(s, at)),
+        carried: Ticket(half(s, at + 2)),
+        first: UnitNo(half(s, at + 4)),
+        second: UnitNo(half(s, at + 6)),
+        state: state(byte(s, at + 8)),
+        fill: Fill::Blank,
+    }
+}
+
+fn state(n: u16) -> State {
+    if n == 0 {
+        return State::Idle;
+    }
+    if n == 1 {
+        return State::Waiting;
+    }
+    if n == 2 {
+        return State::Holding;
+    }
+    if n == 3 {
+        return State::WaitingSecond;
+    }
+    if n == 4 {
+        State::HoldingBoth
+    } else {
+        State::Away
+    }
+}
+
+// Sixteen units from a place on.
+pub(crate) fn units(s: &[u8], from: usize) -> [LockUnit; UNITS]
+    requires { ⌜ from < 128 ⌝ }
+{
+    let x = unit(s, 0);
+    let mut xs = [x; UNITS];
+    let mut u = 0;
+    while u < UNITS {
+        xs[u] = unit(s, from + 32 * u);
+        u += 1;
+    }
+    xs
+}
+
+// The unit at a place: eight registers.
+fn unit(s: &[u8], at: usize) -> LockUnit
+    requires { ⌜ at < 1024 ⌝ }
+{
+    let a = register(s, at);
+    let b = register(s, at + 4);
+    let c = register(s, at + 8);
+    let d = register(s, at + 12);
+    let e = register(s, at + 16);
+    let f = register(s, at + 20);
+    let g = register(s, at + 24);
+    let h = register(s, at + 28);
+    LockUnit {
+        registers: [a, b, c, d, e, f, g, h],
+    }
+}
