@@ -8,10 +8,11 @@ use lib.ListN.{length, set, length-set}
 use lib.Seq.{getD-set-same, getD-set-other}
 use borrow.Author.Tests.{eqb-true, eqb-false}
 use Rattle.ticket.specs.declared.kinds.Ticket.{Ticket}
-use Rattle.block.specs.Table.{cores, units, blank, idle, noUnit, coreOf, unitOf, registerIn, registerOf, withUnit, withRegister, withCore, withCounter}
-use Rattle.block.specs.declared.table.Register.{Register}
-use Rattle.block.specs.declared.table.LockUnit.{LockUnit}
-use Rattle.block.specs.declared.table.Core.{Core}
+use Rattle.parts.specs.Parts.{cores, units, blank, idle, noUnit, registerIn}
+use Rattle.block.specs.Table.{coreOf, unitOf, registerOf, withUnit, withRegister, withCore, withCounter}
+use Rattle.parts.specs.declared.kinds.Register.{Register}
+use Rattle.parts.specs.declared.kinds.LockUnit.{LockUnit}
+use Rattle.parts.specs.declared.kinds.Core.{Core}
 use Rattle.block.specs.declared.table.Table.{Table}
 
 -- the arrays have their lengths, as those of every table that a program holds

@@ -1,30 +1,20 @@
 -- What a step that is allowed says of its core, its unit and the counter.
-use Prim.Native.Nat.{ℕ, _≤_, _<_}
+use Prim.Native.Nat.{_≤_, _<_}
 use mathlib.Core.Bool.{Bool, true, false, _||_, not}
 use mathlib.Core.Logic.{_⊎_, inl, inr}
 use mathlib.Core.Path.{_≡_, refl}
-use native.Mathlib.Omega.{arith}
 use borrow.Author.Tests.{leb-false, ltb-false, not-false}
 use Rattle.ticket.specs.declared.kinds.CoreNo.{CoreNo}
 use Rattle.ticket.specs.declared.kinds.UnitNo.{UnitNo}
-use Rattle.block.specs.State.{isIdle, waits, holds, holdsOne, isAway}
+use Rattle.parts.specs.State.{isIdle, waits, holds, holdsOne, isAway}
 use Rattle.block.specs.Table.{coreOf, unitCount}
-use Rattle.block.specs.Verdict.{unless, noCore, noUnit, stateOf, wrongClass, stretched, mayRequest, mayNest, mayPoll, mayInterrupt, mayComeBack, mayRelease}
-use Rattle.block.specs.declared.table.State.{State}
-use Rattle.block.specs.declared.table.State.the-variants.{Idle, Waiting, Holding, WaitingSecond, HoldingBoth, Away}
+use Rattle.block.specs.Verdict.{noCore, noUnit, stateOf, wrongClass, stretched, mayRequest, mayNest, mayPoll, mayInterrupt, mayComeBack, mayRelease}
+use Rattle.parts.specs.declared.kinds.State.{State}
+use Rattle.parts.specs.declared.kinds.State.the-variants.{Idle, Waiting, Holding, WaitingSecond, HoldingBoth, Away}
 use Rattle.block.specs.declared.table.Table.{Table}
-use Rattle.block.specs.declared.answer.Answer.{Answer}
-use Rattle.block.specs.declared.verdict.Verdict.{Verdict}
-use Rattle.block.specs.declared.verdict.Verdict.the-variants.{Allowed, Refused}
-use Rattle.block.proofs.Bools.{clash}
-
--- allowed only if the condition for the refusal does not hold
-unless-not : (b : Bool) (a : Answer) (v : Verdict) → unless b a v ≡ Allowed → (b ≡ false) × (v ≡ Allowed)
-unless-not true a v e = absurd (refused a e)
-  where
-    refused : (a : Answer) → Refused a ≡ Allowed → ⊥
-    refused a e = let z : _≡_ {A = ℕ} 0 1 = cc in omega arith
-unless-not false a v e = (refl, e)
+use Rattle.refusals.specs.declared.verdict.Verdict.the-variants.{Allowed}
+use Rattle.parts.proofs.Bools.{clash}
+use Rattle.refusals.proofs.Refusals.{unless-not}
 
 or-not : (a b : Bool) → (a || b) ≡ false → (a ≡ false) × (b ≡ false)
 or-not true b e = absurd (clash refl e)

@@ -4,7 +4,7 @@ use Prim.Native.Nat.{ℕ, zero, suc, _<_}
 use mathlib.Core.Logic.{_⊎_, inl, inr, _≢_}
 use mathlib.Core.Path.{_≡_, refl, sym, _∙_, ap, subst}
 use native.Mathlib.Omega.{arith}
-use Rattle.block.specs.Fold.{upTo}
+use Rattle.parts.specs.Fold.{upTo}
 use Rattle.block.proofs.Access.{same-or-not}
 
 -- a claim of all numbers below suc n is one of all below n and of n

@@ -10,20 +10,19 @@ use borrow.Author.Tests.{ltb-true}
 use Rattle.ticket.specs.Order.{behind, topBit}
 use Rattle.ticket.specs.declared.kinds.CoreNo.{CoreNo}
 use Rattle.ticket.specs.declared.kinds.UnitNo.{UnitNo}
-use Rattle.block.specs.Fold.{some}
-use Rattle.block.specs.State.{isIdle}
-use Rattle.block.specs.Table.{cores, coreOf}
+use Rattle.parts.specs.Fold.{some}
+use Rattle.parts.specs.State.{isIdle}
+use Rattle.parts.specs.Parts.{cores}
+use Rattle.block.specs.Table.{coreOf}
 use Rattle.block.specs.Sound.{sound}
-use Rattle.block.specs.Verdict.{unless, stateOf, old, stretched, known, mayRequest, mayNest, mayPoll, mayInterrupt, mayComeBack, mayRelease}
-use Rattle.block.specs.Judged.{onRequest, onNest, onPoll, onInterrupt, onComeBack, onRelease}
-use Rattle.block.specs.declared.table.Core.{Core}
+use Rattle.block.specs.Verdict.{stateOf, old, stretched, mayRequest}
+use Rattle.refusals.specs.Judged.{asking, onRequest}
+use Rattle.parts.specs.declared.kinds.Core.{Core}
 use Rattle.block.specs.declared.table.Table.{Table}
-use Rattle.block.specs.declared.answer.Answer.the-variants.{WrongState, Stretched}
-use Rattle.block.specs.declared.verdict.Verdict.{Verdict}
-use Rattle.block.specs.declared.verdict.Verdict.the-variants.{Allowed}
-use Rattle.block.proofs.Bools.{or-cases}
+use Rattle.refusals.specs.declared.verdict.Verdict.{Verdict}
+use Rattle.parts.proofs.Bools.{or-cases}
 use Rattle.block.proofs.Parts.{parts}
-use Rattle.block.proofs.Standing.{cores-few}
+use Rattle.parts.proofs.Ranging.{cores-few}
 use Rattle.block.proofs.Touching.{still}
 
 module _ (t : Table) (s : sound t ≡ true) where
@@ -52,19 +51,4 @@ module _ (t : Table) (k : CoreNo) (c : Core) (v : Verdict) (is : c ≡ coreOf t 
   judged-request u s so =
       so ∙
       ap (λ (d : Core). onRequest (t .counts) (t .cores) (t .counter) k (d .state) u) is ∙
-      ap (λ (b : Bool). known t k u (unless (not (isIdle (stateOf t k))) WrongState (unless b Stretched Allowed))) (counted-old t s)
-
-  pub judged-nest : (u : UnitNo) → v ≡ onNest (t .counts) k (c .state) (c .first) u → v ≡ mayNest t k u
-  judged-nest u so = so ∙ ap (λ (d : Core). onNest (t .counts) k (d .state) (d .first) u) is
-
-  pub judged-poll : v ≡ onPoll (t .counts) k (c .state) → v ≡ mayPoll t k
-  judged-poll so = so ∙ ap (λ (d : Core). onPoll (t .counts) k (d .state)) is
-
-  pub judged-interrupt : v ≡ onInterrupt (t .counts) k (c .state) → v ≡ mayInterrupt t k
-  judged-interrupt so = so ∙ ap (λ (d : Core). onInterrupt (t .counts) k (d .state)) is
-
-  pub judged-come-back : v ≡ onComeBack (t .counts) k (c .state) → v ≡ mayComeBack t k
-  judged-come-back so = so ∙ ap (λ (d : Core). onComeBack (t .counts) k (d .state)) is
-
-  pub judged-release : v ≡ onRelease (t .counts) k (c .state) → v ≡ mayRelease t k
-  judged-release so = so ∙ ap (λ (d : Core). onRelease (t .counts) k (d .state)) is
+      ap (asking (t .counts) k (stateOf t k) u) (counted-old t s)

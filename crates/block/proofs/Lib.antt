@@ -1,7 +1,3 @@
-pub mod Bools
-pub mod Folds
-pub mod Loops
-pub mod Refusals
 pub mod Parts
 pub mod Access
 pub mod Along
@@ -13,4 +9,6 @@ pub mod Standing
 pub mod Stepping
 pub mod Judging
 pub mod Answering
+pub mod Putting
+pub mod ByParts
 pub mod Determined

@@ -2,14 +2,15 @@
 use mathlib.Core.Bool.{Bool, true, _&&_}
 use mathlib.Core.Path.{_≡_}
 use Prim.Native.Nat.{ℕ}
-use Rattle.block.specs.Fold.{every}
-use Rattle.block.specs.Table.{cores, units, coreOf, unitOf, registerOf}
-use Rattle.block.specs.Build.{inRange}
+use Rattle.parts.specs.Fold.{every}
+use Rattle.parts.specs.Parts.{cores, units}
+use Rattle.block.specs.Table.{coreOf, unitOf, registerOf}
+use Rattle.parts.specs.Range.{inRange}
 use Rattle.block.specs.Sound as S
 use Rattle.block.specs.Parts.{CoreSound, UnitSound, Sound}
 use Rattle.block.specs.declared.table.Table.{Table}
-use Rattle.block.proofs.Bools.{and-left, and-right, and-both}
-use Rattle.block.proofs.Folds.{every-at, at-every}
+use Rattle.parts.proofs.Bools.{and-left, and-right, and-both}
+use Rattle.parts.proofs.Folds.{every-at, at-every}
 
 module _ (t : Table) where
   core-parts : (k : ℕ) → S.coreSound t k ≡ true → CoreSound t k

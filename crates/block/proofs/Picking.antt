@@ -10,16 +10,14 @@ use Rattle.ticket.specs.Order.{circle, older, Window}
 use Rattle.ticket.specs.declared.kinds.CoreNo.{CoreNo}
 use Rattle.ticket.specs.declared.kinds.Ticket.{Ticket}
 use Rattle.ticket.proofs.Laws.{transitive, total}
-use Rattle.block.specs.Table.{cores, coreNo, registerIn}
-use Rattle.block.specs.Settle.{flags, inLine, better, consider, next, Within}
-use Rattle.block.specs.declared.table.Register.{Register}
-use Rattle.block.specs.declared.table.LockUnit.{LockUnit}
-use Rattle.block.specs.declared.settle.Best.{Best}
-use Rattle.block.specs.declared.settle.Best.the-variants.{Nobody, Core as Won}
-use Rattle.block.proofs.Bools.{clash}
-use Rattle.block.proofs.Folds.{count-cong}
+use Rattle.parts.specs.Parts.{cores, coreNo, registerIn}
+use Rattle.plan.specs.Settle.{inLine, better, consider, next, Within}
+use Rattle.parts.specs.declared.kinds.LockUnit.{LockUnit}
+use Rattle.plan.specs.declared.settle.Best.{Best}
+use Rattle.plan.specs.declared.settle.Best.the-variants.{Nobody, Core as Won}
+use Rattle.parts.proofs.Bools.{clash}
 use Rattle.block.proofs.Access.{same-or-not}
-use Rattle.block.proofs.Along.{to-last, along, upTo-cong}
+use Rattle.block.proofs.Along.{to-last, along}
 
 -- what the best of the cores below n is
 abbrev Picked : LockUnit → ℕ → Best → Type 0
@@ -129,15 +127,3 @@ module _
         (j : ℕ) → j < cores → j ≢ k .0 → Lined x j → older (m .0) (at x j) ≡ true
     next-oldest k m e j h d q =
         ap (λ (t : Ticket). older (t .0) (at x j)) (sym (next-won x k m e .1)) ∙ subst (Oldest cores) e (oldest .1) j h d q
-
--- units whose registers are the same
-module _ (x y : LockUnit) (same : (k : ℕ) → k < cores → registerIn x k ≡ registerIn y k) where
-  pub next-cong : next x ≡ next y
-  next-cong =
-      upTo-cong (consider x) (consider y) cores Nobody
-      (λ k h b. ap (λ (r : Register). cond (inLine r) (better r (coreNo k) b) b) (same k h))
-
-  pub flags-cong : flags x ≡ flags y
-  flags-cong =
-      count-cong (λ (k : ℕ). registerIn x k .flag) (λ (k : ℕ). registerIn y k .flag) cores
-      (λ k h. ap (λ (r : Register). r .flag) (same k h))

@@ -11,21 +11,23 @@ use lib.ListN.{getD, set}
 use lib.Seq.{set-set, set-comm}
 use Rattle.ticket.specs.declared.kinds.Ticket.{Ticket}
 use Rattle.ticket.specs.declared.kinds.UnitNo.{UnitNo}
-use Rattle.block.specs.Table.{blank, flagged, noUnit, unitOf, registerIn, withUnit, withRegister, withCore}
-use Rattle.block.specs.Answer.{packed}
-use Rattle.block.specs.Settle.{flags, next, give, settleAt, won}
-use Rattle.block.specs.Touched.{registered, givenUnit, settledUnit, changed, freedTwo}
-use Rattle.block.specs.declared.table.Register.{Register}
-use Rattle.block.specs.declared.table.LockUnit.{LockUnit}
-use Rattle.block.specs.declared.table.Core.{Core}
+use Rattle.parts.specs.Parts.{blank, flagged, noUnit, registerIn}
+use Rattle.block.specs.Table.{unitOf, withUnit, withRegister, withCore}
+use Rattle.parts.specs.Answer.{packed}
+use Rattle.plan.specs.Settle.{flags, next, won, registered, givenUnit, settledUnit}
+use Rattle.block.specs.Settle.{give, settleAt}
+use Rattle.block.specs.Touched.{changed, freedTwo}
+use Rattle.parts.specs.declared.kinds.Register.{Register}
+use Rattle.parts.specs.declared.kinds.LockUnit.{LockUnit}
+use Rattle.parts.specs.declared.kinds.Core.{Core}
 use Rattle.block.specs.declared.table.Table.{Table}
-use Rattle.block.specs.declared.settle.Best.{Best}
-use Rattle.block.specs.declared.settle.Best.the-variants.{Nobody, Core as Won}
-use Rattle.block.specs.declared.settle.Settled.{Settled}
-use Rattle.block.specs.declared.settle.SettledUnit.{SettledUnit}
-use Rattle.block.specs.declared.answer.Answer.the-variants.{Done}
-use Rattle.block.specs.declared.answer.Grants.{Grants}
-use Rattle.block.specs.declared.answer.Stepped.{Stepped}
+use Rattle.plan.specs.declared.settle.Best.{Best}
+use Rattle.plan.specs.declared.settle.Best.the-variants.{Nobody, Core as Won}
+use Rattle.block.specs.declared.table.Settled.{Settled}
+use Rattle.plan.specs.declared.settle.SettledUnit.{SettledUnit}
+use Rattle.parts.specs.declared.answer.Answer.the-variants.{Done}
+use Rattle.parts.specs.declared.answer.Grants.{Grants}
+use Rattle.block.specs.declared.stepped.Stepped.{Stepped}
 use Rattle.block.proofs.Access.{unit-other}
 
 -- a unit with a changed register stands where it was put

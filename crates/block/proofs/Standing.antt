@@ -8,33 +8,25 @@ use native.Mathlib.Omega.{arith}
 use lib.Dec.{eqb, leb, ltb}
 use borrow.Author.Tests.{eqb-true, ne-eqb, leb-true, ltb-true}
 use Rattle.ticket.specs.Kinds.{ticket}
-use Rattle.block.specs.Fold.{one}
-use Rattle.block.specs.State.{isIdle, stands, twoStage}
-use Rattle.block.specs.Table.{cores, units, blank, coreOf, unitOf, registerIn, registerOf, unitCount}
-use Rattle.block.specs.Build.{inRange, perClass}
-use Rattle.block.specs.Settle.{flags}
+use Rattle.parts.specs.Fold.{one}
+use Rattle.parts.specs.State.{isIdle, stands, twoStage}
+use Rattle.parts.specs.Parts.{cores, units, blank, registerIn}
+use Rattle.block.specs.Table.{coreOf, unitOf, registerOf, unitCount}
+use Rattle.parts.specs.Range.{inRange, perClass}
+use Rattle.plan.specs.Settle.{flags}
 use Rattle.block.specs.Sound as S
 use Rattle.block.specs.Parts.{Sound}
 use Rattle.block.specs.Touched.{Calm, CalmTable}
-use Rattle.block.specs.declared.table.Register.{Register}
-use Rattle.block.specs.declared.table.LockUnit.{LockUnit}
-use Rattle.block.specs.declared.table.Core.{Core}
-use Rattle.block.specs.declared.table.Counts.{Counts}
+use Rattle.parts.specs.declared.kinds.Register.{Register}
+use Rattle.parts.specs.declared.kinds.LockUnit.{LockUnit}
+use Rattle.parts.specs.declared.kinds.Core.{Core}
+use Rattle.parts.specs.declared.kinds.Counts.{Counts}
 use Rattle.block.specs.declared.table.Table.{Table}
-use Rattle.block.proofs.Bools.{and-left, and-right, or-cases, not-true-false, clash}
-use Rattle.block.proofs.Folds.{some-none}
+use Rattle.parts.proofs.Bools.{and-left, and-right, or-cases, not-true-false, clash}
+use Rattle.parts.proofs.Folds.{some-none}
 use Rattle.block.proofs.Picking.{next-nobody}
 
 -- counts
-
-pub cores-few : (c : Counts) → inRange c ≡ true → c .cores ≤ cores
-cores-few c e =
-    let a = leb 1 (c .cores) in
-    let b = leb (c .cores) cores in
-    let d = leb 1 (c .first) in
-    let f = leb (c .first) perClass in
-    let g = leb (c .second) perClass in
-    leb-true (c .cores) cores (and-right a b (and-left (a && b) d (and-left (a && b && d) f (and-left (a && b && d && f) g e))))
 
 pub units-few : (c : Counts) → inRange c ≡ true → c .first + c .second ≤ units
 units-few c e =

@@ -11,26 +11,28 @@ use lib.Seq.{getD-set-other, set-getD}
 use borrow.Author.Tests.{eqb-true, eq-eqb, ne-eqb}
 use Rattle.ticket.specs.declared.kinds.Ticket.{Ticket}
 use Rattle.ticket.specs.declared.kinds.UnitNo.{UnitNo}
-use Rattle.block.specs.Fold.{one}
-use Rattle.block.specs.State.{isIdle, stands, holdsBoth, twoStage, waits}
-use Rattle.block.specs.Table.{cores, units, blank, standing, idle, noUnit, core, coreOf, unitOf, registerIn, registerOf, withUnit, withRegister, withCore}
-use Rattle.block.specs.Settle.{flags, next}
+use Rattle.parts.specs.Fold.{one}
+use Rattle.parts.specs.State.{isIdle, stands, holdsBoth, twoStage, waits}
+use Rattle.parts.specs.Parts.{cores, units, blank, standing, idle, noUnit, core, registerIn}
+use Rattle.block.specs.Table.{coreOf, unitOf, registerOf, withUnit, withRegister, withCore}
+use Rattle.plan.specs.Settle.{flags, next, registered}
 use Rattle.block.specs.Sound as S
 use Rattle.block.specs.Sound.{sound}
-use Rattle.block.specs.Steps.{settled, giveUp, entered, freed, awaited, served, heir, inherited, carrying, notYet, granted, polled}
-use Rattle.block.specs.Touched.{Calm, CalmTable, unsettled, registered, changed, freedTwo}
-use Rattle.block.specs.declared.table.Register.{Register}
-use Rattle.block.specs.declared.table.LockUnit.{LockUnit}
-use Rattle.block.specs.declared.table.Core.{Core}
-use Rattle.block.specs.declared.table.State.{State}
-use Rattle.block.specs.declared.table.State.the-variants.{Idle, Waiting, Holding, WaitingSecond, HoldingBoth, Away}
+use Rattle.block.specs.Steps.{settled, giveUp, entered, freed, awaited, inherited, carrying, notYet, granted, polled}
+use Rattle.plan.specs.Poll.{served, heir}
+use Rattle.block.specs.Touched.{Calm, CalmTable, unsettled, changed, freedTwo}
+use Rattle.parts.specs.declared.kinds.Register.{Register}
+use Rattle.parts.specs.declared.kinds.LockUnit.{LockUnit}
+use Rattle.parts.specs.declared.kinds.Core.{Core}
+use Rattle.parts.specs.declared.kinds.State.{State}
+use Rattle.parts.specs.declared.kinds.State.the-variants.{Idle, Waiting, Holding, WaitingSecond, HoldingBoth, Away}
 use Rattle.block.specs.declared.table.Table.{Table}
-use Rattle.block.specs.declared.settle.Best.{Best}
-use Rattle.block.specs.declared.answer.Answer.the-variants.{Done, Granted, NotYet}
-use Rattle.block.specs.declared.answer.Stepped.{Stepped}
+use Rattle.plan.specs.declared.settle.Best.{Best}
+use Rattle.parts.specs.declared.answer.Answer.the-variants.{Done, Granted, NotYet}
+use Rattle.block.specs.declared.stepped.Stepped.{Stepped}
 use Rattle.block.proofs.Access.{unit-other, same-or-not}
-use Rattle.block.proofs.Bools.{and-left, clash}
-use Rattle.block.proofs.Folds.{count-cong, at-some}
+use Rattle.parts.proofs.Bools.{and-left, clash}
+use Rattle.parts.proofs.Folds.{count-cong, at-some}
 use Rattle.block.proofs.Parts.{parts}
 use Rattle.block.proofs.Standing.{first-in, second-after, bare-one, bare-two, sound-calm}
 use Rattle.block.proofs.Touching.{settled-none, settled-one, settled-two, giveUp-one, giveUp-two}
@@ -154,13 +156,6 @@ module _ (t : Table) (k : ℕ) (h : k < cores) (s : sound t ≡ true) (w : waits
   at : stands (c .state) ≡ true
   at = waiting-stands (c .state) w
 
-  pub awaits-in : awaited c < units
-  awaits-in = go (twoStage (c .state)) refl
-    where
-      go : (b : Bool) → twoStage (c .state) ≡ b → cond b (c .second .0) (c .first .0) < units
-      go true e = second-unit t k h s at e .1
-      go false e = first-unit t k h s at
-
   -- a poll that finds the flag set, or clear at the first stage, touches no unit
   pub waits-on : (x : Stepped) → twoStage (c .state) ≡ false → x ≡ unsettled t NotYet (c .carried) → x ≡ notYet t k
   waits-on x one e = e ∙ settled-none t NotYet (c .carried) (sound-calm t (parts t s)) ∙ pick (twoStage (c .state)) one
@@ -239,12 +234,6 @@ module _
   where
     abbrev now : Core
     now = coreOf t k
-
-    pub awaits-unit : u < units
-    awaits-unit = subst (λ (v : ℕ). v < units) (sym (at ∙ ap awaited is)) (awaits-in t k h s w)
-
-    pub awaits-first : c .first .0 < units
-    awaits-first = subst (λ (b : Core). b .first .0 < units) (sym is) (first-unit t k h s (waiting-stands (now .state) w))
 
     decided : (b : Bool) → registerOf t u k .flag ≡ b → cond b (granted t k) (notYet t k) ≡ polled t k
     decided b e = ap (λ (a : Bool). cond a (granted t k) (notYet t k)) (sym e ∙ ap (λ (v : ℕ). registerOf t v k .flag) (at ∙ ap awaited is))

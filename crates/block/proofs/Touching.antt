@@ -11,20 +11,22 @@ use lib.Seq.{set-getD}
 use borrow.Author.Tests.{eqb-true, eqb-false}
 use Rattle.ticket.specs.declared.kinds.Ticket.{Ticket}
 use Rattle.ticket.specs.declared.kinds.UnitNo.{UnitNo}
-use Rattle.block.specs.Fold.{upTo}
-use Rattle.block.specs.Table.{cores, units, blank, flagged, noUnit, unitOf, registerOf, withUnit, withRegister}
-use Rattle.block.specs.Answer.{packed}
-use Rattle.block.specs.Settle.{flags, inLine, next, give, settleAt, Settling, won, settleNext, settle}
+use Rattle.parts.specs.Fold.{upTo}
+use Rattle.parts.specs.Parts.{cores, units, blank, flagged, noUnit}
+use Rattle.block.specs.Table.{unitOf, registerOf, withUnit, withRegister}
+use Rattle.parts.specs.Answer.{packed}
+use Rattle.plan.specs.Settle.{flags, inLine, next, won}
+use Rattle.block.specs.Settle.{give, settleAt, Settling, settleNext, settle}
 use Rattle.block.specs.Steps.{settled, clear, giveUp}
 use Rattle.block.specs.Touched.{Calm, CalmTable, unsettled, settledOne, settledTwo}
-use Rattle.block.specs.declared.table.Register.{Register}
-use Rattle.block.specs.declared.table.LockUnit.{LockUnit}
+use Rattle.parts.specs.declared.kinds.Register.{Register}
+use Rattle.parts.specs.declared.kinds.LockUnit.{LockUnit}
 use Rattle.block.specs.declared.table.Table.{Table}
-use Rattle.block.specs.declared.settle.Settled.{Settled}
-use Rattle.block.specs.declared.settle.Best.{Best}
-use Rattle.block.specs.declared.settle.Best.the-variants.{Nobody, Core as Won}
-use Rattle.block.specs.declared.answer.Answer.{Answer}
-use Rattle.block.specs.declared.answer.Stepped.{Stepped}
+use Rattle.block.specs.declared.table.Settled.{Settled}
+use Rattle.plan.specs.declared.settle.Best.{Best}
+use Rattle.plan.specs.declared.settle.Best.the-variants.{Nobody, Core as Won}
+use Rattle.parts.specs.declared.answer.Answer.{Answer}
+use Rattle.block.specs.declared.stepped.Stepped.{Stepped}
 use Rattle.block.proofs.Access.{unit-other, register-unit}
 use Rattle.block.proofs.Picking.{next-won}
 

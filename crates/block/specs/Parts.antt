@@ -2,8 +2,9 @@
 use Prim.Native.Nat.{ℕ, _<_}
 use mathlib.Core.Bool.{true}
 use mathlib.Core.Path.{_≡_}
-use Rattle.block.specs.Table.{cores, units, coreOf, unitOf, registerOf}
-use Rattle.block.specs.Build.{inRange}
+use Rattle.parts.specs.Parts.{cores, units}
+use Rattle.parts.specs.Range.{inRange}
+use Rattle.block.specs.Table.{coreOf, unitOf, registerOf}
 use Rattle.block.specs.Sound as S
 use Rattle.block.specs.declared.table.Table.{Table}
 

@@ -5,9 +5,9 @@ use mathlib.Core.List.{List, []}
 use lib.Dec.{eqb}
 use Rattle.ticket.specs.Kinds.{ticket}
 use Rattle.ticket.specs.declared.kinds.Ticket.{Ticket}
-use Rattle.block.specs.State.{isIdle}
-use Rattle.block.specs.declared.table.Core.{Core}
-use Rattle.block.specs.declared.table.Counts.{Counts}
+use Rattle.parts.specs.State.{isIdle}
+use Rattle.parts.specs.declared.kinds.Core.{Core}
+use Rattle.parts.specs.declared.kinds.Counts.{Counts}
 use Rattle.block.specs.declared.table.Table.{Table}
 
 abbrev pub seen : Counts → Ticket → List Core → Table

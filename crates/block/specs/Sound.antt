@@ -4,14 +4,15 @@ use mathlib.Core.Bool.{Bool, cond, _&&_, _||_, not}
 use lib.Dec.{leb, ltb, eqb}
 use Rattle.ticket.specs.Order.{half, behind, older}
 use Rattle.ticket.specs.declared.kinds.Ticket.{Ticket}
-use Rattle.block.specs.Fold.{every, some, one}
-use Rattle.block.specs.State.{isIdle, stands, holdsFirst, holdsBoth, twoStage, unserved}
-use Rattle.block.specs.Table.{cores, units, coreOf, unitOf, registerIn, registerOf, unitCount}
-use Rattle.block.specs.Build.{inRange}
-use Rattle.block.specs.Settle.{flags}
-use Rattle.block.specs.declared.table.Register.{Register}
-use Rattle.block.specs.declared.table.LockUnit.{LockUnit}
-use Rattle.block.specs.declared.table.Core.{Core}
+use Rattle.parts.specs.Fold.{every, some, one}
+use Rattle.parts.specs.State.{isIdle, stands, holdsFirst, holdsBoth, twoStage, unserved}
+use Rattle.parts.specs.Parts.{cores, units, registerIn}
+use Rattle.parts.specs.Range.{inRange}
+use Rattle.parts.specs.declared.kinds.Register.{Register}
+use Rattle.parts.specs.declared.kinds.LockUnit.{LockUnit}
+use Rattle.parts.specs.declared.kinds.Core.{Core}
+use Rattle.plan.specs.Settle.{flags}
+use Rattle.block.specs.Table.{coreOf, unitOf, registerOf, unitCount}
 use Rattle.block.specs.declared.table.Table.{Table}
 
 -- "everything past them is blank": a core past the count is idle

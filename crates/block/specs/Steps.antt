@@ -2,27 +2,27 @@
 use Prim.Native.Nat.{ℕ}
 use mathlib.Core.Bool.{cond}
 use Rattle.ticket.specs.Kinds.{ticket}
-use Rattle.ticket.specs.Order.{after, older}
+use Rattle.ticket.specs.Order.{after}
 use Rattle.ticket.specs.declared.kinds.Ticket.{Ticket}
 use Rattle.ticket.specs.declared.kinds.UnitNo.{UnitNo}
-use Rattle.block.specs.Fold.{upTo}
-use Rattle.block.specs.State.{twoStage}
-use Rattle.block.specs.Table.{units, unitNo, blank, standing, idle, core, coreOf, unitOf, registerOf, withRegister, withCore, withCounter}
-use Rattle.block.specs.Answer.{packed, refusal}
-use Rattle.block.specs.Settle.{next, settle}
+use Rattle.parts.specs.Fold.{upTo}
+use Rattle.parts.specs.State.{twoStage}
+use Rattle.parts.specs.Parts.{units, unitNo, blank, standing, idle, core}
+use Rattle.parts.specs.Answer.{packed}
+use Rattle.parts.specs.declared.kinds.Core.{Core}
+use Rattle.parts.specs.declared.kinds.State.the-variants.{Waiting, WaitingSecond, Away}
+use Rattle.parts.specs.declared.answer.Answer.{Answer}
+use Rattle.parts.specs.declared.answer.Answer.the-variants.{Done, Granted, NotYet, Unsound}
+use Rattle.parts.specs.declared.answer.Step.{Step}
+use Rattle.parts.specs.declared.answer.Step.the-variants.{R, N, P, I, C, L}
+use Rattle.plan.specs.Settle.{next}
+use Rattle.plan.specs.Poll.{served, heir}
+use Rattle.block.specs.Table.{coreOf, unitOf, registerOf, withRegister, withCore, withCounter}
+use Rattle.block.specs.Verdict.{refusal, answered, mayRequest, mayNest, mayPoll, mayInterrupt, mayComeBack, mayRelease}
+use Rattle.block.specs.Settle.{settle}
 use Rattle.block.specs.Sound.{sound}
-use Rattle.block.specs.Verdict.{answered, mayRequest, mayNest, mayPoll, mayInterrupt, mayComeBack, mayRelease}
-use Rattle.block.specs.declared.table.Core.{Core}
-use Rattle.block.specs.declared.table.State.{State}
-use Rattle.block.specs.declared.table.State.the-variants.{Idle, Waiting, Holding, WaitingSecond, HoldingBoth, Away}
 use Rattle.block.specs.declared.table.Table.{Table}
-use Rattle.block.specs.declared.settle.Best.{Best}
-use Rattle.block.specs.declared.settle.Best.the-variants.{Nobody, Core as Won}
-use Rattle.block.specs.declared.answer.Answer.{Answer}
-use Rattle.block.specs.declared.answer.Answer.the-variants.{Done, Granted, NotYet, Unsound}
-use Rattle.block.specs.declared.answer.Step.{Step}
-use Rattle.block.specs.declared.answer.Step.the-variants.{R, N, P, I, C, L}
-use Rattle.block.specs.declared.answer.Stepped.{Stepped}
+use Rattle.block.specs.declared.stepped.Stepped.{Stepped}
 
 -- the end of an accepted step: every unit settles, and the grants are the step's
 abbrev pub settled : Table → Answer → Ticket → Stepped
@@ -74,21 +74,6 @@ released t k = freed t k idle (coreOf t k .own)
 -- P: the unit that the core waits for
 abbrev pub awaited : Core → ℕ
 awaited c = cond (twoStage (c .state)) (c .second .0) (c .first .0)
-
--- "flag set: now holds it"
-abbrev pub served : State → State
-served Idle = Idle
-served Waiting = Holding
-served Holding = Holding
-served WaitingSecond = HoldingBoth
-served HoldingBoth = HoldingBoth
-served Away = Away
-
--- "Inheriting: take the oldest ticket among valid registers with flag clear at the first unit. If it is older than the carried
--- ticket, it becomes the carried ticket. Otherwise nothing changes."
-abbrev pub heir : Ticket → Best → Ticket
-heir n Nobody = n
-heir n (Won j m) = cond (older (m .0) (n .0)) m n
 
 abbrev pub inherited : Table → Core → Ticket
 inherited t c = heir (c .carried) (next (unitOf t (c .first .0)))

@@ -1,72 +1,64 @@
--- "Order for a step: 16, 10, 11, then 12 or 14, then 13, 15. Each is given exactly when its condition holds and no earlier one does."
+-- The verdicts of a table. Their order stands in Judged.
 use Prim.Native.Nat.{ℕ}
-use mathlib.Core.Bool.{Bool, cond, _&&_, _||_, not}
-use lib.Dec.{leb, ltb}
-use Rattle.ticket.specs.Order.{behind, topBit}
+use mathlib.Core.Bool.{Bool}
+use Rattle.ticket.specs.Kinds.{ticket}
 use Rattle.ticket.specs.declared.kinds.CoreNo.{CoreNo}
 use Rattle.ticket.specs.declared.kinds.UnitNo.{UnitNo}
-use Rattle.block.specs.Fold.{some}
-use Rattle.block.specs.State.{isIdle, waits, holds, holdsOne, isAway}
-use Rattle.block.specs.Table.{cores, coreOf, unitCount}
-use Rattle.block.specs.Answer.{refusal}
-use Rattle.block.specs.declared.table.State.{State}
+use Rattle.parts.specs.Fold.{some}
+use Rattle.parts.specs.Parts.{cores}
+use Rattle.parts.specs.declared.answer.Answer.{Answer}
+use Rattle.parts.specs.declared.answer.Grants.the-variants.{None}
+use Rattle.parts.specs.declared.kinds.State.{State}
+use Rattle.refusals.specs.Judged.{absent, unplaced, misplaced, aged, asking, onNest, onPoll, onInterrupt, onComeBack, onRelease}
+use Rattle.refusals.specs.declared.verdict.Verdict.{Verdict}
+use Rattle.refusals.specs.declared.verdict.Verdict.the-variants.{Allowed, Refused}
+use Rattle.block.specs.Table.{coreOf}
 use Rattle.block.specs.declared.table.Table.{Table}
-use Rattle.block.specs.declared.answer.Answer.{Answer}
-use Rattle.block.specs.declared.answer.Answer.the-variants.{NoCore, NoUnit, WrongState, WrongClass, Masked, Stretched}
-use Rattle.block.specs.declared.answer.Stepped.{Stepped}
-use Rattle.block.specs.declared.verdict.Verdict.{Verdict}
-use Rattle.block.specs.declared.verdict.Verdict.the-variants.{Allowed, Refused}
+use Rattle.block.specs.declared.stepped.Stepped.{Stepped}
 
--- refused with an answer if the condition holds, and else judged further
-abbrev pub unless : Bool → Answer → Verdict → Verdict
-unless due a further = cond due (Refused a) further
+abbrev pub refusal : Table → Answer → Stepped
+refusal t a = record { table = t; answer = a; ticket = ticket 0; grants = None }
 
 -- 10
 abbrev pub noCore : Table → CoreNo → Bool
-noCore t k = leb (t .counts .cores) (k .0)
+noCore t k = absent (t .counts) k
 
 -- 11
 abbrev pub noUnit : Table → UnitNo → Bool
-noUnit t u = leb (unitCount t) (u .0)
+noUnit t u = unplaced (t .counts) u
 
 abbrev pub stateOf : Table → CoreNo → State
 stateOf t k = coreOf t (k .0) .state
 
--- 13: "unit is first-class, or the held one is second-class"
+-- 13
 abbrev pub wrongClass : Table → CoreNo → UnitNo → Bool
-wrongClass t k u = ltb (u .0) (t .counts .first) || leb (t .counts .first) (coreOf t (k .0) .first .0)
+wrongClass t k u = misplaced (t .counts) (coreOf t (k .0) .first) u
 
--- 15: "some live ticket lies 32,768 or more behind the counter"
+-- 15
 abbrev pub old : Table → ℕ → Bool
-old t k = not (isIdle (coreOf t k .state)) && topBit (behind (t .counter .0) (coreOf t k .own .0))
+old t k = aged (t .counter) (coreOf t k)
 
 abbrev pub stretched : Table → Bool
 stretched t = some (old t) cores
 
--- R and N: the core before the unit
-abbrev pub known : Table → CoreNo → UnitNo → Verdict → Verdict
-known t k u further = unless (noCore t k) NoCore (unless (noUnit t u) NoUnit further)
-
+-- each step
 abbrev pub mayRequest : Table → CoreNo → UnitNo → Verdict
-mayRequest t k u = known t k u (unless (not (isIdle (stateOf t k))) WrongState (unless (stretched t) Stretched Allowed))
+mayRequest t k u = asking (t .counts) k (stateOf t k) u (stretched t)
 
 abbrev pub mayNest : Table → CoreNo → UnitNo → Verdict
-mayNest t k u = known t k u (unless (not (holdsOne (stateOf t k))) WrongState (unless (wrongClass t k u) WrongClass Allowed))
+mayNest t k u = onNest (t .counts) k (stateOf t k) (coreOf t (k .0) .first) u
 
 abbrev pub mayPoll : Table → CoreNo → Verdict
-mayPoll t k = unless (noCore t k) NoCore (unless (not (waits (stateOf t k))) WrongState Allowed)
+mayPoll t k = onPoll (t .counts) k (stateOf t k)
 
 abbrev pub mayInterrupt : Table → CoreNo → Verdict
-mayInterrupt t k =
-    unless (noCore t k) NoCore
-    (unless (holds (stateOf t k)) Masked
-    (unless (not (waits (stateOf t k))) WrongState Allowed))
+mayInterrupt t k = onInterrupt (t .counts) k (stateOf t k)
 
 abbrev pub mayComeBack : Table → CoreNo → Verdict
-mayComeBack t k = unless (noCore t k) NoCore (unless (not (isAway (stateOf t k))) WrongState Allowed)
+mayComeBack t k = onComeBack (t .counts) k (stateOf t k)
 
 abbrev pub mayRelease : Table → CoreNo → Verdict
-mayRelease t k = unless (noCore t k) NoCore (unless (not (holds (stateOf t k))) WrongState Allowed)
+mayRelease t k = onRelease (t .counts) k (stateOf t k)
 
 -- an allowed step does its work, a refused one hands back the table
 abbrev pub answered : Table → Verdict → Stepped → Stepped

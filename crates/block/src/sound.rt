@@ -1,33 +1,33 @@
 // Soundness: a test for each clause, of any table whatsoever.
-use crate::building::in_range;
-use crate::settle::flags;
-use crate::settle::one;
+use crate::counting::flags;
+use crate::counting::one;
 use crate::state::holds_both;
 use crate::state::holds_first;
-use crate::state::is_idle;
 use crate::state::stands;
-use crate::state::two_stage;
 use crate::state::unserved;
-use crate::table::CORES;
-use crate::table::Core;
-use crate::table::Counts;
-use crate::table::LockUnit;
-use crate::table::Register;
 use crate::table::Table;
-use crate::table::UNITS;
+use parts::CORES;
+use parts::Core;
+use parts::Counts;
+use parts::LockUnit;
+use parts::Register;
+use parts::UNITS;
+use parts::in_range;
+use parts::is_idle;
+use parts::two_stage;
 use ticket::Ticket;
 use ticket::behind;
 use ticket::older;
-ghost use mathlib.Core.Bool.{_&&_, _||_};
 ghost use mathlib.Core.Path.{_≡_};
 ghost use Prim.Native.Nat.{_<_};
+ghost use mathlib.Core.Bool.{_||_, _&&_};
 ghost use lib.Dec.{ltb};
 ghost use lib.ListN.{getD};
-ghost use Rattle.block.specs.Fold.{some, every};
-ghost use Rattle.block.specs.State.{isIdle};
-ghost use Rattle.block.specs.Table.{cores, units, idle, registerIn};
-ghost use Rattle.block.specs.Seen.{seen, ofCounts, ofCounter, ofCores, differing};
-ghost use Rattle.block.specs.Sound.{idleBlank, names, named, isBlank, shows, agrees, anyValid, oneFlag, recent, lends, carries, coreSound, unitSound, sound};
+ghost use Rattle.parts.specs.Fold.{every, some};
+ghost use Rattle.parts.specs.Parts.{units, cores, idle, registerIn};
+ghost use Rattle.parts.specs.State.{isIdle};
+ghost use Rattle.block.specs.Sound.{unitSound, sound, coreSound, named, names, recent, carries, lends, agrees, oneFlag, idleBlank, isBlank, shows, anyValid};
+ghost use Rattle.block.specs.Seen.{seen, ofCounts, ofCounter, differing, ofCores};
 
 impl Table {
     // Whether the table is sound.

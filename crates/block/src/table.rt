@@ -2,69 +2,23 @@
 //
 // What lies in an array has its fields from wide to narrow and no gap: a table with a gap cannot be
 // copied in blocks.
+use parts::CORES;
+use parts::Core;
+use parts::Counts;
+use parts::LockUnit;
+use parts::UNITS;
+use plan::Best;
 use ticket::Ticket;
-use ticket::UnitNo;
-
-// The greatest number of cores, and of units: eight of each class.
-pub const CORES: usize = 8;
-
-pub const UNITS: usize = 16;
-
-// A unit's register for one core, with its grant flag.
-pub struct Register {
-    pub ticket: Ticket,
-    pub valid: bool,
-    pub flag: bool,
-}
-
-// A lock unit: a register for each core.
-pub struct LockUnit {
-    pub registers: [Register; CORES],
-}
-
-// Where a core stands.
-pub enum State {
-    // No ticket.
-    Idle,
-    // Waiting at the first unit.
-    Waiting,
-    // Holding the first unit.
-    Holding,
-    // Holding the first unit and waiting at the second.
-    WaitingSecond,
-    // Holding both.
-    HoldingBoth,
-    // Away in a handler; stands nowhere.
-    Away,
-}
-
-// One byte with one value, which makes a core's size even.
-pub enum Fill {
-    Blank,
-}
-
-// A core. What its state does not speak of is blank: ticket 0, unit 0.
-pub struct Core {
-    pub own: Ticket,
-    pub carried: Ticket,
-    // The unit first asked for.
-    pub first: UnitNo,
-    // The second unit, awaited or held.
-    pub second: UnitNo,
-    pub state: State,
-    pub fill: Fill,
-}
-
-// How many cores, first-class units and second-class units a table has.
-pub struct Counts {
-    pub cores: u16,
-    pub first: u16,
-    pub second: u16,
-}
 
 pub struct Table {
     pub units: [LockUnit; UNITS],
     pub cores: [Core; CORES],
     pub counts: Counts,
     pub counter: Ticket,
+}
+
+// A table of which one unit settled, and the core that it granted: the specification speaks of it.
+pub struct Settled {
+    pub table: Table,
+    pub winner: Best,
 }

@@ -21,7 +21,7 @@
 mod bytes;
 mod image;
 mod register;
-mod script;
+mod scripts;
 mod table;
 mod text;
 
@@ -209,7 +209,7 @@ fn answer_line(s: &[u8], out: &mut [u8], wrote: usize) -> usize {
 fn answer(s: &[u8], out: &mut [u8], wrote: usize) -> usize {
     let letter = bytes::letter(s);
     if letter == b'T' {
-        return script::answer(s, out, wrote);
+        return scripts::answer(s, out, wrote);
     }
     if letter == b'S' {
         return table::answer(s, out, wrote);

@@ -3,7 +3,7 @@ use crate::bytes::word;
 use crate::text::bit;
 use crate::text::field;
 use crate::text::head;
-use block::Register;
+use parts::Register;
 use ticket::Ticket;
 use words::Packed;
 use words::Unpacked;

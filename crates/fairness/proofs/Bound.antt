@@ -10,14 +10,15 @@ use native.Mathlib.Omega.{arith}
 use lib.Dec.{eqb}
 use borrow.Author.Tests.{eqb-true, ltb-true, lt-ltb}
 use Rattle.ticket.specs.Kinds.{grant}
-use Rattle.block.specs.Fold.{one, count}
-use Rattle.block.specs.State.{isIdle}
-use Rattle.block.specs.Table.{cores, coreNo, unitNo, coreOf, unitOf, registerOf}
+use Rattle.parts.specs.Fold.{one, count}
+use Rattle.parts.specs.State.{isIdle}
+use Rattle.parts.specs.Parts.{cores, coreNo, unitNo}
+use Rattle.block.specs.Table.{coreOf, unitOf, registerOf}
 use Rattle.block.specs.declared.table.Table.{Table}
-use Rattle.block.specs.declared.answer.Step.{Step}
-use Rattle.block.specs.declared.answer.Step.the-variants.{R, N, P, I, C, L}
-use Rattle.block.proofs.Bools.{and-left, and-right, and-both, not-true-false, clash}
-use Rattle.block.proofs.Folds.{some-at}
+use Rattle.parts.specs.declared.answer.Step.{Step}
+use Rattle.parts.specs.declared.answer.Step.the-variants.{R, N, P, I, C, L}
+use Rattle.parts.proofs.Bools.{and-left, and-right, and-both, not-true-false, clash}
+use Rattle.parts.proofs.Folds.{some-at}
 use Rattle.block.proofs.Picking.{next-won}
 use Rattle.laws.proofs.Granting.{moves, settled-rising}
 use Rattle.laws.proofs.Keeping.{Good}

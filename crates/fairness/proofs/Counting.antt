@@ -9,10 +9,10 @@ use lib.Dec.{eqb}
 use borrow.Author.Tests.{eqb-true, eq-eqb, ne-eqb}
 use Rattle.ticket.specs.declared.kinds.Grant.{Grant}
 use Rattle.ticket.specs.Kinds.{grant}
-use Rattle.block.specs.Fold.{upTo, count, one}
-use Rattle.block.specs.Table.{coreNo, unitNo}
-use Rattle.block.proofs.Bools.{and-left, and-right, and-both, or-cases, or-left, or-right, clash}
-use Rattle.block.proofs.Folds.{count-change}
+use Rattle.parts.specs.Fold.{upTo, count, one}
+use Rattle.parts.specs.Parts.{coreNo, unitNo}
+use Rattle.parts.proofs.Bools.{and-left, and-right, and-both, or-cases, or-left, or-right, clash}
+use Rattle.parts.proofs.Folds.{count-change}
 use Rattle.block.proofs.Access.{same-or-not}
 use Rattle.laws.specs.Granting.{Rising}
 use Rattle.fairness.specs.Stretch.{gives, grantsOf}

@@ -13,29 +13,31 @@ use Rattle.ticket.specs.Kinds.{ticket}
 use Rattle.ticket.specs.Order.{after}
 use Rattle.ticket.specs.declared.kinds.CoreNo.{CoreNo}
 use Rattle.ticket.specs.declared.kinds.UnitNo.{UnitNo}
-use Rattle.block.specs.State.{isIdle, waits, holds, holdsOne, isAway, stands, twoStage}
-use Rattle.block.specs.Table.{cores, units, unitNo, blank, standing, idle, core, coreOf, registerOf, withRegister, withCore, withCounter}
-use Rattle.block.specs.Answer.{numberOf, refusal}
+use Rattle.parts.specs.State.{isIdle, waits, holds, holdsOne, isAway, stands, twoStage}
+use Rattle.parts.specs.Parts.{cores, units, unitNo, blank, standing, idle, core}
+use Rattle.block.specs.Table.{coreOf, registerOf, withRegister, withCore, withCounter}
+use Rattle.parts.specs.Answer.{numberOf}
+use Rattle.block.specs.Verdict.{refusal, answered, noCore, noUnit, stateOf, wrongClass, stretched, mayRequest, mayNest, mayPoll, mayInterrupt, mayComeBack, mayRelease}
 use Rattle.block.specs.Settle.{settle}
 use Rattle.block.specs.Sound.{sound}
 use Rattle.block.specs.Steps.{clear, giveUp, awaited, inherited, carrying, requested, interrupted, onSound, step}
-use Rattle.block.specs.Verdict.{unless, answered, noCore, noUnit, stateOf, wrongClass, stretched, mayRequest, mayNest, mayPoll, mayInterrupt, mayComeBack, mayRelease}
-use Rattle.block.specs.declared.table.Core.{Core}
-use Rattle.block.specs.declared.table.Register.{Register}
-use Rattle.block.specs.declared.table.State.the-variants.{Waiting}
+use Rattle.refusals.specs.Judged.{unless}
+use Rattle.parts.specs.declared.kinds.Core.{Core}
+use Rattle.parts.specs.declared.kinds.Register.{Register}
+use Rattle.parts.specs.declared.kinds.State.the-variants.{Waiting}
 use Rattle.block.specs.declared.table.Table.{Table}
-use Rattle.block.specs.declared.answer.Answer.{Answer}
-use Rattle.block.specs.declared.answer.Answer.the-variants.{NoCore, NoUnit, WrongState, WrongClass, Masked, Stretched}
-use Rattle.block.specs.declared.answer.Step.{Step}
-use Rattle.block.specs.declared.answer.Step.the-variants.{R, N, P, I, C, L}
-use Rattle.block.specs.declared.answer.Stepped.{Stepped}
-use Rattle.block.specs.declared.verdict.Verdict.{Verdict}
-use Rattle.block.specs.declared.verdict.Verdict.the-variants.{Allowed, Refused}
+use Rattle.parts.specs.declared.answer.Answer.{Answer}
+use Rattle.parts.specs.declared.answer.Answer.the-variants.{NoCore, NoUnit, WrongState, WrongClass, Masked, Stretched}
+use Rattle.parts.specs.declared.answer.Step.{Step}
+use Rattle.parts.specs.declared.answer.Step.the-variants.{R, N, P, I, C, L}
+use Rattle.block.specs.declared.stepped.Stepped.{Stepped}
+use Rattle.refusals.specs.declared.verdict.Verdict.{Verdict}
+use Rattle.refusals.specs.declared.verdict.Verdict.the-variants.{Allowed, Refused}
 use Rattle.block.proofs.Access.{Shaped, same-or-not, core-same, core-other, register-core, register-unit, shaped-register, shaped-counter}
 use Rattle.block.proofs.Allows.{may-request, may-nest, may-poll, may-interrupt, may-come-back}
 use Rattle.block.proofs.Along.{along}
 use Rattle.block.proofs.Answering.{request-in, nest-in, poll-in, interrupt-in, come-back-in, release-in}
-use Rattle.block.proofs.Bools.{clash}
+use Rattle.parts.proofs.Bools.{clash}
 use Rattle.block.proofs.Parts.{whole}
 use Rattle.block.proofs.Standing.{units-few, second-after, bare}
 use Rattle.laws.specs.Granting.{listed}

@@ -16,23 +16,25 @@ use Rattle.ticket.specs.declared.kinds.CoreNo.{CoreNo}
 use Rattle.ticket.specs.declared.kinds.Ticket.{Ticket}
 use Rattle.ticket.specs.declared.kinds.UnitNo.{UnitNo}
 use Rattle.ticket.proofs.Laws.{nth-after, apart, earlier-older, later-not-older, same}
-use Rattle.block.specs.Fold.{one}
-use Rattle.block.specs.State.{isIdle}
-use Rattle.block.specs.Table.{cores, unitNo, idle, core, coreOf}
-use Rattle.block.specs.Build.{inRange, fresh}
+use Rattle.parts.specs.Fold.{one}
+use Rattle.parts.specs.State.{isIdle}
+use Rattle.parts.specs.Parts.{cores, unitNo, idle, core}
+use Rattle.block.specs.Table.{coreOf}
+use Rattle.parts.specs.Range.{inRange}
+use Rattle.block.specs.Build.{fresh}
 use Rattle.block.specs.Steps.{step}
 use Rattle.block.specs.Verdict.{old, mayRequest}
-use Rattle.block.specs.declared.table.Core.{Core}
-use Rattle.block.specs.declared.table.Counts.{Counts}
-use Rattle.block.specs.declared.table.State.the-variants.{Waiting}
+use Rattle.parts.specs.declared.kinds.Core.{Core}
+use Rattle.parts.specs.declared.kinds.Counts.{Counts}
+use Rattle.parts.specs.declared.kinds.State.the-variants.{Waiting}
 use Rattle.block.specs.declared.table.Table.{Table}
-use Rattle.block.specs.declared.answer.Step.{Step}
-use Rattle.block.specs.declared.answer.Step.the-variants.{R, N, P, I, C, L}
-use Rattle.block.specs.declared.verdict.Verdict.the-variants.{Allowed}
+use Rattle.parts.specs.declared.answer.Step.{Step}
+use Rattle.parts.specs.declared.answer.Step.the-variants.{R, N, P, I, C, L}
+use Rattle.refusals.specs.declared.verdict.Verdict.the-variants.{Allowed}
 use Rattle.block.proofs.Access.{Shaped, same-or-not}
 use Rattle.block.proofs.Allows.{may-request}
-use Rattle.block.proofs.Bools.{and-left, clash}
-use Rattle.block.proofs.Folds.{some-none}
+use Rattle.parts.proofs.Bools.{and-left, clash}
+use Rattle.parts.proofs.Folds.{some-none}
 use Rattle.block.proofs.Parts.{parts}
 use Rattle.laws.proofs.Granting.{moves}
 use Rattle.laws.proofs.Keeping.{Good, steps-keep, core-fresh, fresh-shaped, fresh-sound}

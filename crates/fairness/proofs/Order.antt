@@ -1,7 +1,7 @@
 -- The comparison of two live tickets of a place reached is the order of their issue numbers.
-use Rattle.block.specs.State.{isIdle}
+use Rattle.parts.specs.State.{isIdle}
 use Rattle.block.specs.Table.{coreOf}
-use Rattle.block.proofs.Bools.{not-true-false}
+use Rattle.parts.proofs.Bools.{not-true-false}
 use Rattle.fairness.specs.Fair.{OrderIsIssueOrder}
 use Rattle.fairness.proofs.Invariant.{numbered, order}
 

@@ -11,18 +11,19 @@ use borrow.Author.Tests.{eqb-true, eq-eqb, ltb-true}
 use Rattle.ticket.specs.Kinds.{grant}
 use Rattle.ticket.specs.Order.{older}
 use Rattle.ticket.specs.declared.kinds.Ticket.{Ticket}
-use Rattle.block.specs.State.{isIdle, waits}
-use Rattle.block.specs.Table.{cores, units, coreNo, unitNo, coreOf, unitOf, registerOf}
-use Rattle.block.specs.Settle.{inLine}
+use Rattle.parts.specs.State.{isIdle, waits}
+use Rattle.parts.specs.Parts.{cores, units, coreNo, unitNo}
+use Rattle.block.specs.Table.{coreOf, unitOf, registerOf}
+use Rattle.plan.specs.Settle.{inLine}
 use Rattle.block.specs.Sound as S
 use Rattle.block.specs.Steps.{awaited}
-use Rattle.block.specs.declared.table.Core.{Core}
-use Rattle.block.specs.declared.table.Register.{Register}
-use Rattle.block.specs.declared.table.State.{State}
-use Rattle.block.specs.declared.table.State.the-variants.{Idle, Waiting, Holding, WaitingSecond, HoldingBoth, Away}
+use Rattle.parts.specs.declared.kinds.Core.{Core}
+use Rattle.parts.specs.declared.kinds.Register.{Register}
+use Rattle.parts.specs.declared.kinds.State.{State}
+use Rattle.parts.specs.declared.kinds.State.the-variants.{Idle, Waiting, Holding, WaitingSecond, HoldingBoth, Away}
 use Rattle.block.specs.declared.table.Table.{Table}
-use Rattle.block.specs.declared.answer.Step.{Step}
-use Rattle.block.proofs.Bools.{and-left, and-right, and-both, clash}
+use Rattle.parts.specs.declared.answer.Step.{Step}
+use Rattle.parts.proofs.Bools.{and-left, and-right, and-both, clash}
 use Rattle.block.proofs.Picking.{next-won}
 use Rattle.laws.specs.Granting.{Due}
 use Rattle.laws.proofs.Almost.{Almost}

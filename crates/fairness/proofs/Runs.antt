@@ -8,18 +8,19 @@ use mathlib.Core.Path.{_≡_, refl}
 use native.Mathlib.Omega.{arith}
 use Rattle.ticket.specs.Kinds.{ticket}
 use Rattle.ticket.specs.Order.{behind, topBit, older, after as counted}
-use Rattle.block.specs.Fold.{upTo, every}
-use Rattle.block.specs.State.{isIdle, stands, holds}
-use Rattle.block.specs.Table.{cores, coreNo, unitNo, coreOf}
-use Rattle.block.specs.Answer.{numberOf}
+use Rattle.parts.specs.Fold.{upTo, every}
+use Rattle.parts.specs.State.{isIdle, stands, holds}
+use Rattle.parts.specs.Parts.{cores, coreNo, unitNo}
+use Rattle.block.specs.Table.{coreOf}
+use Rattle.parts.specs.Answer.{numberOf}
 use Rattle.block.specs.Sound.{coreSound, unitSound, sound}
 use Rattle.block.specs.Steps.{onSound, step}
-use Rattle.block.specs.declared.table.State.{State}
-use Rattle.block.specs.declared.table.State.the-variants.{Idle, Waiting, Holding, WaitingSecond, HoldingBoth, Away}
-use Rattle.block.specs.declared.answer.Step.{Step}
-use Rattle.block.specs.declared.answer.Step.the-variants.{R, P, I, C, L}
-use Rattle.block.proofs.Bools.{clash, not-true-false}
-use Rattle.block.proofs.Folds.{every-at}
+use Rattle.parts.specs.declared.kinds.State.{State}
+use Rattle.parts.specs.declared.kinds.State.the-variants.{Idle, Waiting, Holding, WaitingSecond, HoldingBoth, Away}
+use Rattle.parts.specs.declared.answer.Step.{Step}
+use Rattle.parts.specs.declared.answer.Step.the-variants.{R, P, I, C, L}
+use Rattle.parts.proofs.Bools.{clash, not-true-false}
+use Rattle.parts.proofs.Folds.{every-at}
 use Rattle.fairness.specs.Run.{Place, Reached, onward, after, start}
 use Rattle.fairness.specs.Stretch.{grants, gives, grantsOf, enters, leaves, stretch, earlier, passed, interruptions}
 use Rattle.fairness.proofs.Invariant.{live-small, numbered}

@@ -12,13 +12,15 @@ use lib.ListN.{set}
 use lib.Seq.{getD-set-same, getD-set-other}
 use borrow.Author.Tests.{eqb-true, eq-eqb}
 use Rattle.ticket.specs.declared.kinds.CoreNo.{CoreNo}
-use Rattle.block.specs.Table.{units, coreNo, blank, flagged, unitOf, registerIn, registerOf}
-use Rattle.block.specs.Settle.{flags, next, give, settleAt, settleNext, settle}
-use Rattle.block.specs.declared.table.Register.{Register}
-use Rattle.block.specs.declared.table.LockUnit.{LockUnit}
+use Rattle.parts.specs.Parts.{units, coreNo, blank, flagged, registerIn}
+use Rattle.block.specs.Table.{unitOf, registerOf}
+use Rattle.plan.specs.Settle.{flags, next}
+use Rattle.block.specs.Settle.{give, settleAt, settleNext, settle}
+use Rattle.parts.specs.declared.kinds.Register.{Register}
+use Rattle.parts.specs.declared.kinds.LockUnit.{LockUnit}
 use Rattle.block.specs.declared.table.Table.{Table}
-use Rattle.block.specs.declared.settle.Best.{Best}
-use Rattle.block.specs.declared.settle.Best.the-variants.{Nobody, Core as Won}
+use Rattle.plan.specs.declared.settle.Best.{Best}
+use Rattle.plan.specs.declared.settle.Best.the-variants.{Nobody, Core as Won}
 use Rattle.block.proofs.Access.{Shaped, same-or-not, unit-same}
 use Rattle.block.proofs.Along.{to-last, along}
 use Rattle.block.proofs.Picking.{next-won}

@@ -11,21 +11,22 @@ use lib.Dec.{eqb, ltb}
 use borrow.Author.Tests.{eqb-true, eq-eqb, ltb-true, lt-ltb}
 use Rattle.ticket.specs.Kinds.{ticket, grant}
 use Rattle.ticket.specs.Order.{after}
-use Rattle.block.specs.State.{isIdle, waits, holds, twoStage}
-use Rattle.block.specs.Table.{cores, units, coreNo, unitNo, standing, coreOf, unitOf, registerOf, withCounter}
+use Rattle.parts.specs.State.{isIdle, waits, holds, twoStage}
+use Rattle.parts.specs.Parts.{cores, units, coreNo, unitNo, standing}
+use Rattle.block.specs.Table.{coreOf, unitOf, registerOf, withCounter}
 use Rattle.block.specs.Steps.{step}
-use Rattle.block.specs.declared.table.Core.{Core}
-use Rattle.block.specs.declared.table.Register.{Register}
-use Rattle.block.specs.declared.table.State.{State}
-use Rattle.block.specs.declared.table.State.the-variants.{Waiting}
+use Rattle.parts.specs.declared.kinds.Core.{Core}
+use Rattle.parts.specs.declared.kinds.Register.{Register}
+use Rattle.parts.specs.declared.kinds.State.{State}
+use Rattle.parts.specs.declared.kinds.State.the-variants.{Waiting}
 use Rattle.block.specs.declared.table.Table.{Table}
-use Rattle.block.specs.declared.answer.Step.{Step}
-use Rattle.block.specs.declared.answer.Step.the-variants.{R, N, P, I, C, L}
+use Rattle.parts.specs.declared.answer.Step.{Step}
+use Rattle.parts.specs.declared.answer.Step.the-variants.{R, N, P, I, C, L}
 use Rattle.block.proofs.Access.{same-or-not, register-same, shaped-counter}
 use Rattle.block.proofs.Allows.{may-request, may-nest, may-come-back, may-release}
 use Rattle.block.proofs.Answering.{request-in, come-back-in}
-use Rattle.block.proofs.Bools.{and-left, and-right, and-both, not-true-false, clash}
-use Rattle.block.proofs.Folds.{at-some}
+use Rattle.parts.proofs.Bools.{and-left, and-right, and-both, not-true-false, clash}
+use Rattle.parts.proofs.Folds.{at-some}
 use Rattle.block.proofs.Parts.{whole}
 use Rattle.block.proofs.Standing.{units-few}
 use Rattle.laws.specs.Granting.{listed, Due}

@@ -8,26 +8,27 @@ use native.Mathlib.Omega.{arith}
 use lib.Dec.{eqb, ltb}
 use borrow.Author.Tests.{eqb-true, eq-eqb, ne-eqb, ltb-true, lt-leb}
 use Rattle.ticket.specs.declared.kinds.Ticket.{Ticket}
-use Rattle.block.specs.Fold.{some, one}
-use Rattle.block.specs.State.{isIdle, waits, holds, stands, holdsFirst, holdsBoth, twoStage}
-use Rattle.block.specs.Table.{cores, units, coreNo, coreOf, unitOf, registerOf}
-use Rattle.block.specs.Answer.{numberOf}
-use Rattle.block.specs.Settle.{flags}
+use Rattle.parts.specs.Fold.{some, one}
+use Rattle.parts.specs.State.{isIdle, waits, holds, stands, holdsFirst, holdsBoth, twoStage}
+use Rattle.parts.specs.Parts.{cores, units, coreNo}
+use Rattle.block.specs.Table.{coreOf, unitOf, registerOf}
+use Rattle.parts.specs.Answer.{numberOf}
+use Rattle.plan.specs.Settle.{flags}
 use Rattle.block.specs.Sound as S
 use Rattle.block.specs.Parts.{Sound}
 use Rattle.block.specs.Steps.{awaited, granted, notYet, polled, onSound, step}
 use Rattle.block.specs.Verdict.{answered, noCore, mayPoll}
-use Rattle.block.specs.declared.table.Core.{Core}
-use Rattle.block.specs.declared.table.Register.{Register}
-use Rattle.block.specs.declared.table.State.{State}
-use Rattle.block.specs.declared.table.State.the-variants.{Idle, Waiting, Holding, WaitingSecond, HoldingBoth, Away}
+use Rattle.parts.specs.declared.kinds.Core.{Core}
+use Rattle.parts.specs.declared.kinds.Register.{Register}
+use Rattle.parts.specs.declared.kinds.State.{State}
+use Rattle.parts.specs.declared.kinds.State.the-variants.{Idle, Waiting, Holding, WaitingSecond, HoldingBoth, Away}
 use Rattle.block.specs.declared.table.Table.{Table}
-use Rattle.block.specs.declared.answer.Step.the-variants.{P}
-use Rattle.block.specs.declared.answer.Stepped.{Stepped}
-use Rattle.block.specs.declared.verdict.Verdict.{Verdict}
-use Rattle.block.specs.declared.verdict.Verdict.the-variants.{Allowed}
-use Rattle.block.proofs.Bools.{and-left, and-right, or-cases, clash}
-use Rattle.block.proofs.Folds.{some-at, at-some, some-none, none-count}
+use Rattle.parts.specs.declared.answer.Step.the-variants.{P}
+use Rattle.block.specs.declared.stepped.Stepped.{Stepped}
+use Rattle.refusals.specs.declared.verdict.Verdict.{Verdict}
+use Rattle.refusals.specs.declared.verdict.Verdict.the-variants.{Allowed}
+use Rattle.parts.proofs.Bools.{and-left, and-right, or-cases, clash}
+use Rattle.parts.proofs.Folds.{some-at, at-some, some-none, none-count}
 use Rattle.block.proofs.Standing.{first-in, second-after, blank-is}
 use Rattle.laws.proofs.Keeping.{Good}
 use Rattle.laws.proofs.Kept.{names-two}

@@ -6,12 +6,13 @@ use mathlib.Core.Logic.{_⊎_}
 use mathlib.Core.Path.{_≡_}
 use lib.Dec.{ltb}
 use Rattle.ticket.specs.Order.{older}
-use Rattle.block.specs.State.{stands, holds}
-use Rattle.block.specs.Table.{coreNo, coreOf}
-use Rattle.block.specs.Answer.{numberOf}
+use Rattle.parts.specs.State.{stands, holds}
+use Rattle.parts.specs.Parts.{coreNo}
+use Rattle.block.specs.Table.{coreOf}
+use Rattle.parts.specs.Answer.{numberOf}
 use Rattle.block.specs.Steps.{step}
-use Rattle.block.specs.declared.answer.Step.{Step}
-use Rattle.block.specs.declared.answer.Step.the-variants.{P}
+use Rattle.parts.specs.declared.answer.Step.{Step}
+use Rattle.parts.specs.declared.answer.Step.the-variants.{P}
 use Rattle.fairness.specs.Run.{Place, Reached, onward, after}
 use Rattle.fairness.specs.Stretch.{grants, gives, enters, leaves, stretch, live, earlier, passed, interruptions}
 

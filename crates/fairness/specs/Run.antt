@@ -7,14 +7,15 @@ use mathlib.Core.Path.{_≡_}
 use lib.Dec.{eqb}
 use Rattle.ticket.specs.Order.{circle}
 use Rattle.ticket.specs.declared.kinds.Ticket.{Ticket}
-use Rattle.block.specs.Fold.{one}
-use Rattle.block.specs.Answer.{numberOf}
-use Rattle.block.specs.Build.{inRange, fresh}
+use Rattle.parts.specs.Fold.{one}
+use Rattle.parts.specs.Answer.{numberOf}
+use Rattle.parts.specs.Range.{inRange}
+use Rattle.block.specs.Build.{fresh}
 use Rattle.block.specs.Steps.{step}
-use Rattle.block.specs.declared.table.Counts.{Counts}
+use Rattle.parts.specs.declared.kinds.Counts.{Counts}
 use Rattle.block.specs.declared.table.Table.{Table}
-use Rattle.block.specs.declared.answer.Step.{Step}
-use Rattle.block.specs.declared.answer.Step.the-variants.{R, N, P, I, C, L}
+use Rattle.parts.specs.declared.answer.Step.{Step}
+use Rattle.parts.specs.declared.answer.Step.the-variants.{R, N, P, I, C, L}
 
 -- the core that a step names
 abbrev pub whose : Step → ℕ

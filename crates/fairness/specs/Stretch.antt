@@ -5,13 +5,14 @@ use mathlib.Core.Bool.{Bool, true, false, _&&_, _||_, not}
 use mathlib.Core.List.{List, [], _∷_}
 use lib.Dec.{eqb, ltb}
 use Rattle.ticket.specs.declared.kinds.Grant.{Grant}
-use Rattle.block.specs.Fold.{some, one, count}
-use Rattle.block.specs.State.{isIdle}
-use Rattle.block.specs.Table.{cores, coreOf}
+use Rattle.parts.specs.Fold.{some, one, count}
+use Rattle.parts.specs.State.{isIdle}
+use Rattle.parts.specs.Parts.{cores}
+use Rattle.block.specs.Table.{coreOf}
 use Rattle.block.specs.Steps.{step}
 use Rattle.block.specs.declared.table.Table.{Table}
-use Rattle.block.specs.declared.answer.Step.{Step}
-use Rattle.block.specs.declared.answer.Step.the-variants.{R, N, P, I, C, L}
+use Rattle.parts.specs.declared.answer.Step.{Step}
+use Rattle.parts.specs.declared.answer.Step.the-variants.{R, N, P, I, C, L}
 use Rattle.laws.specs.Granting.{listed}
 use Rattle.fairness.specs.Run.{Place, whose, done, interrupts, onward}
 

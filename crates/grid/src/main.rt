@@ -3,12 +3,12 @@
 // grant, parted by tabs.
 //
 // The stored output is what second/grid.py prints: a model written from document 01 alone.
-use block::Counts;
-use block::Grants;
-use block::Register;
-use block::Step;
 use block::Table;
 use libc::STDOUT_FILENO;
+use parts::Counts;
+use parts::Grants;
+use parts::Register;
+use parts::Step;
 use ticket::CoreNo;
 use ticket::Grant;
 use ticket::Ticket;
@@ -202,7 +202,7 @@ fn range(cores: u16, first: u16, second: u16) {
     };
     let b = block::build(counts, Ticket(0));
     let a = b.answer;
-    io::print_decimal(STDOUT_FILENO, block::number(a) as u64);
+    io::print_decimal(STDOUT_FILENO, parts::number(a) as u64);
     io::write_all(STDOUT_FILENO, b"\n");
 }
 
@@ -222,7 +222,7 @@ fn take(t: Table, s: Step) -> Table {
     let a = r.answer;
     let n = r.ticket;
     let g = r.grants;
-    io::print_decimal(STDOUT_FILENO, block::number(a) as u64);
+    io::print_decimal(STDOUT_FILENO, parts::number(a) as u64);
     field(n.0);
     grants(g);
     io::write_all(STDOUT_FILENO, b"\n");

@@ -9,18 +9,19 @@ use lib.Dec.{eqb}
 use borrow.Author.Tests.{eqb-true, eq-eqb, ne-eqb, lt-ltb}
 use Rattle.ticket.specs.declared.kinds.Ticket.{Ticket}
 use Rattle.ticket.specs.declared.kinds.UnitNo.{UnitNo}
-use Rattle.block.specs.Fold.{some, one}
-use Rattle.block.specs.State.{isIdle, twoStage, unserved}
-use Rattle.block.specs.Table.{cores, units, core, coreOf, unitOf, registerOf}
-use Rattle.block.specs.Settle.{flags}
+use Rattle.parts.specs.Fold.{some, one}
+use Rattle.parts.specs.State.{isIdle, twoStage, unserved}
+use Rattle.parts.specs.Parts.{cores, units, core}
+use Rattle.block.specs.Table.{coreOf, unitOf, registerOf}
+use Rattle.plan.specs.Settle.{flags}
 use Rattle.block.specs.Sound as S
 use Rattle.block.specs.Parts.{CoreSound, Sound}
-use Rattle.block.specs.declared.table.Core.{Core}
-use Rattle.block.specs.declared.table.Register.{Register}
-use Rattle.block.specs.declared.table.State.{State}
+use Rattle.parts.specs.declared.kinds.Core.{Core}
+use Rattle.parts.specs.declared.kinds.Register.{Register}
+use Rattle.parts.specs.declared.kinds.State.{State}
 use Rattle.block.specs.declared.table.Table.{Table}
-use Rattle.block.proofs.Bools.{and-left, and-right, and-both, or-left, or-right, clash}
-use Rattle.block.proofs.Folds.{some-at, at-some, count-change}
+use Rattle.parts.proofs.Bools.{and-left, and-right, and-both, or-left, or-right, clash}
+use Rattle.parts.proofs.Folds.{some-at, at-some, count-change}
 use Rattle.block.proofs.Access.{same-or-not}
 use Rattle.laws.proofs.Almost.{Almost}
 

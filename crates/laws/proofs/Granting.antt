@@ -16,40 +16,42 @@ use Rattle.ticket.specs.Order.{after}
 use Rattle.ticket.specs.declared.kinds.CoreNo.{CoreNo}
 use Rattle.ticket.specs.declared.kinds.Grant.{Grant}
 use Rattle.ticket.specs.declared.kinds.Ticket.{Ticket}
-use Rattle.block.specs.State.{stands, twoStage, waits}
-use Rattle.block.specs.Table.{cores, units, unitNo, standing, idle, coreOf, unitOf, registerIn, registerOf, unitCount, withRegister, withCore, withCounter}
-use Rattle.block.specs.Answer.{packed, refusal}
-use Rattle.block.specs.Settle.{Settling, flags, inLine, next, give, settleAt, won, settleNext, settle}
+use Rattle.parts.specs.State.{stands, twoStage, waits}
+use Rattle.parts.specs.Parts.{cores, units, unitNo, standing, idle, registerIn}
+use Rattle.block.specs.Table.{coreOf, unitOf, registerOf, unitCount, withRegister, withCore, withCounter}
+use Rattle.parts.specs.Answer.{packed}
+use Rattle.block.specs.Verdict.{refusal, answered, mayRequest, mayNest, mayPoll, mayInterrupt, mayComeBack, mayRelease}
+use Rattle.block.specs.Settle.{Settling, give, settleAt, settleNext, settle}
+use Rattle.plan.specs.Settle.{flags, inLine, next, won}
 use Rattle.block.specs.Sound as S
 use Rattle.block.specs.Sound.{sound}
 use Rattle.block.specs.Parts.{Sound}
 use Rattle.laws.specs.Granting.{listed, Rising, Classes, winner, Due, DueIn, anyInLine}
 use Rattle.block.specs.Steps.{settled, giveUp, requested, nested, interrupted, cameBack, released, awaited, inherited, carrying, granted, polled, onSound}
 use Rattle.block.specs.Touched.{Calm, CalmTable}
-use Rattle.block.specs.Verdict.{answered, mayRequest, mayNest, mayPoll, mayInterrupt, mayComeBack, mayRelease}
-use Rattle.block.specs.declared.table.Core.{Core}
-use Rattle.block.specs.declared.table.LockUnit.{LockUnit}
-use Rattle.block.specs.declared.table.Register.{Register}
-use Rattle.block.specs.declared.table.State.{State}
-use Rattle.block.specs.declared.table.State.the-variants.{Idle, Waiting, Holding, WaitingSecond, HoldingBoth, Away}
+use Rattle.parts.specs.declared.kinds.Core.{Core}
+use Rattle.parts.specs.declared.kinds.LockUnit.{LockUnit}
+use Rattle.parts.specs.declared.kinds.Register.{Register}
+use Rattle.parts.specs.declared.kinds.State.{State}
+use Rattle.parts.specs.declared.kinds.State.the-variants.{Idle, Waiting, Holding, WaitingSecond, HoldingBoth, Away}
 use Rattle.block.specs.declared.table.Table.{Table}
-use Rattle.block.specs.declared.settle.Best.{Best}
-use Rattle.block.specs.declared.settle.Best.the-variants.{Nobody, Core as Won}
-use Rattle.block.specs.declared.answer.Answer.{Answer}
-use Rattle.block.specs.declared.answer.Answer.the-variants.{NotYet}
-use Rattle.block.specs.declared.answer.Grants.the-variants.{Two}
-use Rattle.block.specs.declared.answer.Step.{Step}
-use Rattle.block.specs.declared.answer.Step.the-variants.{R, N, P, I, C, L}
-use Rattle.block.specs.declared.answer.Stepped.{Stepped}
-use Rattle.block.specs.declared.verdict.Verdict.{Verdict}
-use Rattle.block.specs.declared.verdict.Verdict.the-variants.{Allowed, Refused}
+use Rattle.plan.specs.declared.settle.Best.{Best}
+use Rattle.plan.specs.declared.settle.Best.the-variants.{Nobody, Core as Won}
+use Rattle.parts.specs.declared.answer.Answer.{Answer}
+use Rattle.parts.specs.declared.answer.Answer.the-variants.{NotYet}
+use Rattle.parts.specs.declared.answer.Grants.the-variants.{Two}
+use Rattle.parts.specs.declared.answer.Step.{Step}
+use Rattle.parts.specs.declared.answer.Step.the-variants.{R, N, P, I, C, L}
+use Rattle.block.specs.declared.stepped.Stepped.{Stepped}
+use Rattle.refusals.specs.declared.verdict.Verdict.{Verdict}
+use Rattle.refusals.specs.declared.verdict.Verdict.the-variants.{Allowed, Refused}
 use Rattle.block.proofs.Access.{Shaped, same-or-not}
 use Rattle.laws.proofs.Almost.{Almost}
 use Rattle.block.proofs.Along.{along, upTo-cong}
 use Rattle.block.proofs.Answering.{request-in, nest-in, poll-in, interrupt-in, come-back-in, release-in}
-use Rattle.block.proofs.Bools.{clash}
+use Rattle.parts.proofs.Bools.{clash}
 use Rattle.laws.proofs.Columns.{sound-almost}
-use Rattle.block.proofs.Folds.{at-some, none-some, count-none}
+use Rattle.parts.proofs.Folds.{at-some, none-some, count-none}
 use Rattle.laws.proofs.Kept.{Two as Both, names-two, two-stage, backMoves, almost-come-back, interruptMoves, almost-interrupt, releaseMoves, almost-release, nestMoves, almost-nest, requestMoves, almost-request, grantedMoves, almost-granted, blank-out, held-out, almost-carrying}
 use Rattle.block.proofs.Parts.{parts}
 use Rattle.block.proofs.Picking.{next-won, nobody-next}

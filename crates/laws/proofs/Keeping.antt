@@ -9,30 +9,33 @@ use borrow.Author.Tests.{eq-eqb}
 use Rattle.ticket.specs.Kinds.{ticket}
 use Rattle.ticket.specs.declared.kinds.CoreNo.{CoreNo}
 use Rattle.ticket.specs.declared.kinds.Ticket.{Ticket}
-use Rattle.block.specs.Fold.{one}
-use Rattle.block.specs.State.{isIdle, twoStage}
-use Rattle.block.specs.Table.{cores, units, blank, idle, noUnit, coreOf, unitOf, registerIn, registerOf}
-use Rattle.block.specs.Build.{inRange, fresh, build}
-use Rattle.block.specs.Settle.{flags, settle}
+use Rattle.parts.specs.Fold.{one}
+use Rattle.parts.specs.State.{isIdle, twoStage}
+use Rattle.parts.specs.Parts.{cores, units, blank, idle, noUnit, registerIn}
+use Rattle.block.specs.Table.{coreOf, unitOf, registerOf}
+use Rattle.parts.specs.Range.{inRange}
+use Rattle.block.specs.Build.{fresh, build}
+use Rattle.plan.specs.Settle.{flags}
+use Rattle.block.specs.Settle.{settle}
 use Rattle.block.specs.Sound as S
 use Rattle.block.specs.Sound.{sound}
 use Rattle.block.specs.Parts.{CoreSound, Sound}
 use Rattle.block.specs.Verdict.{answered, mayRequest, mayNest, mayPoll, mayInterrupt, mayComeBack, mayRelease}
 use Rattle.block.specs.Steps.{requested, nested, interrupted, cameBack, released, awaited, granted, notYet, polled, onSound}
-use Rattle.block.specs.declared.table.Register.{Register}
-use Rattle.block.specs.declared.table.LockUnit.{LockUnit}
-use Rattle.block.specs.declared.table.Core.{Core}
-use Rattle.block.specs.declared.table.Counts.{Counts}
+use Rattle.parts.specs.declared.kinds.Register.{Register}
+use Rattle.parts.specs.declared.kinds.LockUnit.{LockUnit}
+use Rattle.parts.specs.declared.kinds.Core.{Core}
+use Rattle.parts.specs.declared.kinds.Counts.{Counts}
 use Rattle.block.specs.declared.table.Table.{Table}
-use Rattle.block.specs.declared.answer.Step.{Step}
-use Rattle.block.specs.declared.answer.Step.the-variants.{R, N, P, I, C, L}
-use Rattle.block.specs.declared.answer.Stepped.{Stepped}
-use Rattle.block.specs.declared.verdict.Verdict.{Verdict}
-use Rattle.block.specs.declared.verdict.Verdict.the-variants.{Allowed, Refused}
+use Rattle.parts.specs.declared.answer.Step.{Step}
+use Rattle.parts.specs.declared.answer.Step.the-variants.{R, N, P, I, C, L}
+use Rattle.block.specs.declared.stepped.Stepped.{Stepped}
+use Rattle.refusals.specs.declared.verdict.Verdict.{Verdict}
+use Rattle.refusals.specs.declared.verdict.Verdict.the-variants.{Allowed, Refused}
 use Rattle.block.specs.declared.building.Built.{Built}
-use Rattle.block.specs.declared.answer.Answer.the-variants.{Done, OutOfRange}
-use Rattle.block.proofs.Bools.{or-left, or-right}
-use Rattle.block.proofs.Folds.{none-some, none-count}
+use Rattle.parts.specs.declared.answer.Answer.the-variants.{Done, OutOfRange}
+use Rattle.parts.proofs.Bools.{or-left, or-right}
+use Rattle.parts.proofs.Folds.{none-some, none-count}
 use Rattle.block.proofs.Access.{Shaped}
 use Rattle.laws.proofs.Almost.{Almost}
 use Rattle.block.proofs.Parts.{parts, whole}

@@ -15,29 +15,31 @@ use Rattle.ticket.specs.Order.{half, behind, topBit, older, after, Window}
 use Rattle.ticket.specs.declared.kinds.CoreNo.{CoreNo}
 use Rattle.ticket.specs.declared.kinds.Ticket.{Ticket}
 use Rattle.ticket.specs.declared.kinds.UnitNo.{UnitNo}
-use Rattle.block.specs.Fold.{upTo, some}
-use Rattle.block.specs.State.{isIdle, stands, holdsFirst, twoStage, unserved}
-use Rattle.block.specs.Table.{cores, units, unitNo, blank, standing, idle, core, coreOf, unitOf, registerIn, registerOf, unitCount, withRegister, withCore, withCounter}
-use Rattle.block.specs.Build.{inRange, perClass}
-use Rattle.block.specs.Settle.{inLine, next}
+use Rattle.parts.specs.Fold.{upTo, some}
+use Rattle.parts.specs.State.{isIdle, stands, holdsFirst, twoStage, unserved}
+use Rattle.parts.specs.Parts.{cores, units, unitNo, blank, standing, idle, core, registerIn}
+use Rattle.block.specs.Table.{coreOf, unitOf, registerOf, unitCount, withRegister, withCore, withCounter}
+use Rattle.parts.specs.Range.{inRange, perClass}
+use Rattle.plan.specs.Settle.{inLine, next}
 use Rattle.block.specs.Sound as S
 use Rattle.block.specs.Parts.{Sound}
-use Rattle.block.specs.Steps.{clear, giveUp, awaited, served, heir, inherited, carrying}
+use Rattle.block.specs.Steps.{clear, giveUp, awaited, inherited, carrying}
+use Rattle.plan.specs.Poll.{served, heir}
 use Rattle.block.specs.Verdict.{old, mayRequest, mayNest, mayPoll, mayComeBack, mayInterrupt, mayRelease}
-use Rattle.block.specs.declared.table.Core.{Core}
-use Rattle.block.specs.declared.table.Counts.{Counts}
-use Rattle.block.specs.declared.table.Register.{Register}
-use Rattle.block.specs.declared.table.State.{State}
-use Rattle.block.specs.declared.table.State.the-variants.{Idle, Waiting, Holding, WaitingSecond, HoldingBoth, Away}
-use Rattle.block.specs.declared.table.LockUnit.{LockUnit}
+use Rattle.parts.specs.declared.kinds.Core.{Core}
+use Rattle.parts.specs.declared.kinds.Counts.{Counts}
+use Rattle.parts.specs.declared.kinds.Register.{Register}
+use Rattle.parts.specs.declared.kinds.State.{State}
+use Rattle.parts.specs.declared.kinds.State.the-variants.{Idle, Waiting, Holding, WaitingSecond, HoldingBoth, Away}
+use Rattle.parts.specs.declared.kinds.LockUnit.{LockUnit}
 use Rattle.block.specs.declared.table.Table.{Table}
-use Rattle.block.specs.declared.settle.Best.{Best}
-use Rattle.block.specs.declared.settle.Best.the-variants.{Nobody, Core as Won}
-use Rattle.block.specs.declared.verdict.Verdict.the-variants.{Allowed}
+use Rattle.plan.specs.declared.settle.Best.{Best}
+use Rattle.plan.specs.declared.settle.Best.the-variants.{Nobody, Core as Won}
+use Rattle.refusals.specs.declared.verdict.Verdict.the-variants.{Allowed}
 use Rattle.ticket.proofs.Laws.{transitive}
 use Rattle.ticket.proofs.Circle.{behind-leads, behind-only, behind-self}
-use Rattle.block.proofs.Bools.{not-true-false, and-left, and-right, and-both, or-left, or-right, or-cases, clash}
-use Rattle.block.proofs.Folds.{some-at, at-some, some-none, count-unique}
+use Rattle.parts.proofs.Bools.{not-true-false, and-left, and-right, and-both, or-left, or-right, or-cases, clash}
+use Rattle.parts.proofs.Folds.{some-at, at-some, some-none, count-unique}
 use Rattle.block.proofs.Access.{Shaped, same-or-not, core-same, core-other, register-same, register-core, register-unit, shaped-register, shaped-core, shaped-counter}
 use Rattle.laws.proofs.Almost.{Almost}
 use Rattle.laws.proofs.Columns.{lent, lending, lenders-others, sound-few, sound-almost, Moved, column-changed, stays, stayed}

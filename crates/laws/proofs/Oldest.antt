@@ -11,20 +11,21 @@ use borrow.Author.Tests.{eqb-true}
 use Rattle.ticket.specs.Order.{circle, older, Window}
 use Rattle.ticket.specs.declared.kinds.CoreNo.{CoreNo}
 use Rattle.ticket.specs.declared.kinds.Ticket.{Ticket}
-use Rattle.block.specs.Fold.{some}
-use Rattle.block.specs.State.{isIdle, stands, holdsFirst, holdsBoth, twoStage, unserved}
-use Rattle.block.specs.Table.{cores, units, coreOf, unitOf, registerOf}
-use Rattle.block.specs.Settle.{inLine, next}
+use Rattle.parts.specs.Fold.{some}
+use Rattle.parts.specs.State.{isIdle, stands, holdsFirst, holdsBoth, twoStage, unserved}
+use Rattle.parts.specs.Parts.{cores, units}
+use Rattle.block.specs.Table.{coreOf, unitOf, registerOf}
+use Rattle.plan.specs.Settle.{inLine, next}
 use Rattle.block.specs.Sound as S
 use Rattle.block.specs.Parts.{Sound}
-use Rattle.block.specs.declared.table.Core.{Core}
-use Rattle.block.specs.declared.table.Register.{Register}
-use Rattle.block.specs.declared.table.State.{State}
-use Rattle.block.specs.declared.table.State.the-variants.{Idle, Waiting, Holding, WaitingSecond, HoldingBoth, Away}
+use Rattle.parts.specs.declared.kinds.Core.{Core}
+use Rattle.parts.specs.declared.kinds.Register.{Register}
+use Rattle.parts.specs.declared.kinds.State.{State}
+use Rattle.parts.specs.declared.kinds.State.the-variants.{Idle, Waiting, Holding, WaitingSecond, HoldingBoth, Away}
 use Rattle.block.specs.declared.table.Table.{Table}
-use Rattle.block.specs.declared.settle.Best.the-variants.{Nobody, Core as Won}
-use Rattle.block.proofs.Bools.{and-left, and-right, or-cases, not-true-false, clash}
-use Rattle.block.proofs.Folds.{some-at, count-unique}
+use Rattle.plan.specs.declared.settle.Best.the-variants.{Nobody, Core as Won}
+use Rattle.parts.proofs.Bools.{and-left, and-right, or-cases, not-true-false, clash}
+use Rattle.parts.proofs.Folds.{some-at, count-unique}
 use Rattle.block.proofs.Access.{same-or-not}
 use Rattle.laws.proofs.Almost.{Almost}
 use Rattle.block.proofs.Picking.{next-won, nobody-next, next-nobody, next-oldest}

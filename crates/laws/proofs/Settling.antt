@@ -10,19 +10,21 @@ use native.Mathlib.Omega.{arith}
 use lib.Dec.{eqb}
 use borrow.Author.Tests.{eq-eqb}
 use Rattle.ticket.specs.declared.kinds.Ticket.{Ticket}
-use Rattle.block.specs.Fold.{some, count, one}
-use Rattle.block.specs.State.{stands, twoStage, holdsFirst, holdsBoth}
-use Rattle.block.specs.Table.{cores, units, flagged, coreOf, unitOf, registerIn, registerOf, withRegister}
-use Rattle.block.specs.Settle.{Settling, flags, inLine, settleAt, settleNext, settle}
+use Rattle.parts.specs.Fold.{some, count, one}
+use Rattle.parts.specs.State.{stands, twoStage, holdsFirst, holdsBoth}
+use Rattle.parts.specs.Parts.{cores, units, flagged, registerIn}
+use Rattle.block.specs.Table.{coreOf, unitOf, registerOf, withRegister}
+use Rattle.block.specs.Settle.{Settling, settleAt, settleNext, settle}
+use Rattle.plan.specs.Settle.{flags, inLine}
 use Rattle.block.specs.Sound as S
 use Rattle.block.specs.Parts.{Sound}
 use Rattle.block.specs.Touched.{Calm}
-use Rattle.block.specs.declared.table.Register.{Register}
-use Rattle.block.specs.declared.table.LockUnit.{LockUnit}
-use Rattle.block.specs.declared.table.Core.{Core}
+use Rattle.parts.specs.declared.kinds.Register.{Register}
+use Rattle.parts.specs.declared.kinds.LockUnit.{LockUnit}
+use Rattle.parts.specs.declared.kinds.Core.{Core}
 use Rattle.block.specs.declared.table.Table.{Table}
-use Rattle.block.proofs.Bools.{and-left, and-right, and-both, not-true-false, flipped, clash}
-use Rattle.block.proofs.Folds.{some-at, at-some, none-some, some-none, count-change, count-some, none-count}
+use Rattle.parts.proofs.Bools.{and-left, and-right, and-both, not-true-false, flipped, clash}
+use Rattle.parts.proofs.Folds.{some-at, at-some, none-some, some-none, count-change, count-some, none-count}
 use Rattle.block.proofs.Access.{Shaped, same-or-not, unit-other, register-same, register-core, register-unit, shaped-register}
 use Rattle.laws.proofs.Almost.{Almost}
 use Rattle.block.proofs.Along.{to-last, along}

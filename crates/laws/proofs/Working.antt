@@ -10,23 +10,24 @@ use borrow.Author.Tests.{lt-leb, leb-true}
 use Rattle.ticket.specs.Kinds.{ticket}
 use Rattle.ticket.specs.Order.{behind, topBit, after}
 use Rattle.ticket.specs.declared.kinds.Ticket.{Ticket}
-use Rattle.block.specs.Table.{cores, coreNo, unitNo}
-use Rattle.block.specs.Build.{inRange, fresh, perClass}
-use Rattle.block.specs.Answer.{numberOf}
-use Rattle.block.specs.Fold.{upTo}
+use Rattle.parts.specs.Parts.{cores, coreNo, unitNo}
+use Rattle.parts.specs.Range.{inRange, perClass}
+use Rattle.block.specs.Build.{fresh}
+use Rattle.parts.specs.Answer.{numberOf}
+use Rattle.parts.specs.Fold.{upTo}
 use Rattle.block.specs.Sound.{coreSound, unitSound, sound}
 use Rattle.block.specs.Verdict.{mayRequest, answered, noCore, noUnit, stretched, old}
 use Rattle.block.specs.Steps.{requested, onSound, step}
 use Rattle.laws.specs.Shown.{shown}
-use Rattle.block.specs.declared.table.Counts.{Counts}
+use Rattle.parts.specs.declared.kinds.Counts.{Counts}
 use Rattle.block.specs.declared.table.Table.{Table}
-use Rattle.block.specs.declared.answer.Step.{Step}
-use Rattle.block.specs.declared.answer.Step.the-variants.{R, N, P, I, C, L}
-use Rattle.block.specs.declared.answer.Stepped.{Stepped}
-use Rattle.block.specs.declared.verdict.Verdict.{Verdict}
-use Rattle.block.specs.declared.verdict.Verdict.the-variants.{Allowed}
-use Rattle.block.proofs.Bools.{and-left, and-right}
-use Rattle.block.proofs.Folds.{none-some}
+use Rattle.parts.specs.declared.answer.Step.{Step}
+use Rattle.parts.specs.declared.answer.Step.the-variants.{R, N, P, I, C, L}
+use Rattle.block.specs.declared.stepped.Stepped.{Stepped}
+use Rattle.refusals.specs.declared.verdict.Verdict.{Verdict}
+use Rattle.refusals.specs.declared.verdict.Verdict.the-variants.{Allowed}
+use Rattle.parts.proofs.Bools.{and-left, and-right}
+use Rattle.parts.proofs.Folds.{none-some}
 use Rattle.laws.proofs.Settling.{settle-same}
 use Rattle.laws.proofs.Keeping.{core-fresh, fresh-sound}
 

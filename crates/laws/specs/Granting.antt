@@ -7,15 +7,16 @@ use lib.Dec.{eqb}
 use Rattle.ticket.specs.declared.kinds.CoreNo.{CoreNo}
 use Rattle.ticket.specs.declared.kinds.Grant.{Grant}
 use Rattle.ticket.specs.declared.kinds.Ticket.{Ticket}
-use Rattle.block.specs.Fold.{some}
-use Rattle.block.specs.Table.{cores, units, registerIn, unitOf, unitCount}
-use Rattle.block.specs.Settle.{flags, inLine, next}
-use Rattle.block.specs.declared.table.LockUnit.{LockUnit}
+use Rattle.parts.specs.Fold.{some}
+use Rattle.parts.specs.Parts.{cores, units, registerIn}
+use Rattle.block.specs.Table.{unitOf, unitCount}
+use Rattle.plan.specs.Settle.{flags, inLine, next}
+use Rattle.parts.specs.declared.kinds.LockUnit.{LockUnit}
 use Rattle.block.specs.declared.table.Table.{Table}
-use Rattle.block.specs.declared.settle.Best.{Best}
-use Rattle.block.specs.declared.settle.Best.the-variants.{Nobody, Core}
-use Rattle.block.specs.declared.answer.Grants.{Grants}
-use Rattle.block.specs.declared.answer.Grants.the-variants.{None, One, Two}
+use Rattle.plan.specs.declared.settle.Best.{Best}
+use Rattle.plan.specs.declared.settle.Best.the-variants.{Nobody, Core}
+use Rattle.parts.specs.declared.answer.Grants.{Grants}
+use Rattle.parts.specs.declared.answer.Grants.the-variants.{None, One, Two}
 
 abbrev pub listed : Grants → List Grant
 listed None = []

@@ -1,13 +1,13 @@
 -- What the tester sees of a run of steps: for each its answer, its ticket, and unit and core of each grant.
 use Prim.Native.Nat.{ℕ}
 use mathlib.Core.List.{List, [], _∷_}
-use Rattle.block.specs.Answer.{numberOf}
+use Rattle.parts.specs.Answer.{numberOf}
 use Rattle.block.specs.Steps.{step}
 use Rattle.block.specs.declared.table.Table.{Table}
-use Rattle.block.specs.declared.answer.Step.{Step}
-use Rattle.block.specs.declared.answer.Grants.{Grants}
-use Rattle.block.specs.declared.answer.Grants.the-variants.{None, One, Two}
-use Rattle.block.specs.declared.answer.Stepped.{Stepped}
+use Rattle.parts.specs.declared.answer.Step.{Step}
+use Rattle.parts.specs.declared.answer.Grants.{Grants}
+use Rattle.parts.specs.declared.answer.Grants.the-variants.{None, One, Two}
+use Rattle.block.specs.declared.stepped.Stepped.{Stepped}
 
 abbrev pub grantFields : Grants → List ℕ
 grantFields None = []

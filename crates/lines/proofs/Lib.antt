@@ -1,9 +1,4 @@
 pub mod Turns
 pub mod Scanning
-pub mod ReadsBack
-pub mod AsWritten
-pub mod Pasting
-pub mod Parts
-pub mod Lengths
+pub mod Shortly
 pub mod Determined
-pub mod Reader

@@ -11,7 +11,7 @@ use lib.Dec.{eqb, leb}
 use lib.ListN.{length, getD, drop, drop-of-length-le, length-drop}
 use lib.Seq.{drop-cons}
 use borrow.Author.Tests.{eq-eqb, ne-eqb, not-true, not-false, leb-true}
-use Rattle.block.proofs.Bools.{and-left, and-right}
+use Rattle.parts.proofs.Bools.{and-left, and-right}
 use Rattle.lines.specs.Bytes.{tab, end, lineMost}
 use Rattle.lines.specs.Number.{numberMost, follows, scan}
 use Rattle.lines.specs.Reading.{ending, lineEnd}
@@ -20,7 +20,7 @@ use Rattle.lines.specs.declared.number.Field.the-variants.{Bad, Last, Th
 use Rattle.lines.specs.declared.reading.Ending.{Ending}
 use Rattle.lines.specs.declared.reading.Ending.the-variants.{At, Long, Short}
 
-opened : (s : List ℕ) (i : ℕ) → i < length s → drop i s ≡ getD s i 0 ∷ drop (i + 1) s
+pub opened : (s : List ℕ) (i : ℕ) → i < length s → drop i s ≡ getD s i 0 ∷ drop (i + 1) s
 opened s i h = rw (add-one, drop-cons s i 0)
 
 -- what a byte that follows is: a digit, after no lone zero, with a value that is not too great

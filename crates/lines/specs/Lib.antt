@@ -1,6 +1,4 @@
 pub mod Bytes
 pub mod Number
 pub mod Reading
-pub mod Writing
-pub mod Text
-pub mod Script
+pub mod ShortLine

@@ -7,10 +7,10 @@ use mathlib.Core.List.{List, [], _∷_}
 use lib.Dec.{eqb, leb}
 use lib.ListN.{length, getD, take, drop}
 use Rattle.ticket.specs.Kinds.{ticket}
-use Rattle.block.specs.Table.{coreNo, unitNo}
-use Rattle.block.specs.Build.{inRange}
-use Rattle.block.specs.declared.table.Counts.{Counts}
-use Rattle.block.specs.declared.answer.Step.the-variants.{R, N, P, I, C, L}
+use Rattle.parts.specs.Parts.{coreNo, unitNo}
+use Rattle.parts.specs.Range.{inRange}
+use Rattle.parts.specs.declared.kinds.Counts.{Counts}
+use Rattle.parts.specs.declared.answer.Step.the-variants.{R, N, P, I, C, L}
 use Rattle.lines.specs.Bytes.{tab, end, lineMost, letterT, letterR, letterN, letterP, letterI, letterC, letterL}
 use Rattle.lines.specs.Number.{field}
 use Rattle.lines.specs.declared.number.Field.{Field}

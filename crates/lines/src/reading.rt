@@ -1,16 +1,17 @@
 // Reading a header or a step line at a place.
 use crate::number::Field;
 use crate::number::read_field;
-use block::Counts;
-use block::Step;
-use block::in_range;
+use parts::Counts;
+use parts::Step;
+use parts::in_range;
 use ticket::CoreNo;
 use ticket::Ticket;
 use ticket::UnitNo;
 ghost use mathlib.Core.Path.{_≡_};
 ghost use Prim.Native.Nat.{_≤_, _<_};
 ghost use lib.ListN.{length};
-ghost use Rattle.lines.specs.Reading.{lineEnd, oneNumber, twoNumbers, afterCore, afterLetter, parseStep, stepTo, readStep, withCounter, withSecond, withFirst, withCores, parseHeader, headerTo, readHeader};
+ghost use Rattle.lines.specs.ShortLine.{digit, shortLine};
+ghost use Rattle.lines.specs.Reading.{lineEnd, oneNumber, twoNumbers, afterCore, afterLetter, parseStep, stepLine, stepTo, readStep, withCounter, withSecond, withFirst, withCores, parseHeader, headerTo, readHeader};
 
 // The longest script line, with its end.
 pub const LINE_MOST: usize = 14;
@@ -75,11 +76,16 @@ fn one_number(letter: u8, k: u16) -> Parsed
     ensures { λ r. ⌜ r ≡ oneNumber letter k ⌝ }
 {
     if letter == b'P' {
-        Parsed::Good(Step::P(CoreNo(k)))
-    } else if letter == b'I' {
-        Parsed::Good(Step::I(CoreNo(k)))
-    } else if letter == b'C' {
-        Parsed::Good(Step::C(CoreNo(k)))
+        return Parsed::Good(Step::P(CoreNo(k)));
+    }
+    if letter < b'L' {
+        if letter == b'C' {
+            Parsed::Good(Step::C(CoreNo(k)))
+        } else if letter == b'I' {
+            Parsed::Good(Step::I(CoreNo(k)))
+        } else {
+            Parsed::Not
+        }
     } else if letter == b'L' {
         Parsed::Good(Step::L(CoreNo(k)))
     } else {
@@ -136,13 +142,72 @@ fn parse_step(s: &[u8]) -> Parsed
     }
 }
 
+// A step line whose numbers have one digit each: its letter and its numbers. Or some other line.
+enum Short {
+    One(u8, u16),
+    Two(u8, u16, u16),
+    Other,
+}
+
+// Whether a byte is a digit.
+fn digit(b: u8) -> bool
+    ensures { λ r. ⌜ r ≡ digit b ⌝ }
+{
+    (48 <= b) & (b <= 57)
+}
+
+// Whether the line at a place is short. Most lines are: they are read without looking for their end.
+fn short_line(s: &[u8], at: usize) -> Short
+    requires { ⌜ at ≤ length (now s) ⌝ }
+    ensures { λ r. ⌜ r ≡ shortLine (now (s .entry)) at ⌝ }
+{
+    if s.len() - at < 6 {
+        return Short::Other;
+    }
+    let d = s[at + 2];
+    if (s[at + 1] != 9) | !digit(d) {
+        return Short::Other;
+    }
+    let e = s[at + 3];
+    if e == 10 {
+        return Short::One(s[at], (d - 48) as u16);
+    }
+    let f = s[at + 4];
+    if (e == 9) & digit(f) & (s[at + 5] == 10) {
+        return Short::Two(s[at], (d - 48) as u16, (f - 48) as u16);
+    }
+    Short::Other
+}
+
+// A line that ends before the place next, by what its bytes are.
+fn found(p: Parsed, next: usize) -> StepLine
+    ensures { λ r. ⌜ r ≡ stepLine p next ⌝ }
+{
+    match p {
+        Parsed::Good(x) => StepLine::Line(x, next),
+        Parsed::Not => StepLine::Malformed,
+    }
+}
+
 // The step line at a place.
-pub(crate) fn step_line_at(s: &[u8], at: usize) -> StepLine
+pub fn step_line_at(s: &[u8], at: usize) -> StepLine
     ensures { λ r. ⌜ r ≡ readStep (now (s .entry)) at ⌝ }
 {
     if s.len() <= at {
         return StepLine::Finished;
     }
+    match short_line(s, at) {
+        Short::One(letter, k) => found(one_number(letter, k), at + 4),
+        Short::Two(letter, k, u) => found(two_numbers(letter, k, u), at + 6),
+        Short::Other => any_line(s, at),
+    }
+}
+
+// The step line at a place, of any form.
+fn any_line(s: &[u8], at: usize) -> StepLine
+    requires { ⌜ at < length (now s) ⌝ }
+    ensures { λ r. ⌜ r ≡ readStep (now (s .entry)) at ⌝ }
+{
     match line_end(s, at) {
         Ending::At(e) => step_at(s, at, e),
         Ending::Long => StepLine::Malformed,
@@ -155,10 +220,7 @@ fn step_at(s: &[u8], at: usize, e: usize) -> StepLine
     requires { ⌜ (at ≤ e) × (e < length (now s)) ⌝ }
     ensures { λ r. ⌜ r ≡ stepTo (now (s .entry)) at (Ending.At e) ⌝ }
 {
-    match parse_step(&s[at..e]) {
-        Parsed::Good(x) => StepLine::Line(x, e + 1),
-        Parsed::Not => StepLine::Malformed,
-    }
+    found(parse_step(&s[at..e]), e + 1)
 }
 
 // The last of a header's numbers: f is its field.
@@ -244,7 +306,7 @@ fn header_at(s: &[u8], at: usize, e: usize) -> HeaderLine
 }
 
 // The header at a place.
-pub(crate) fn header_line_at(s: &[u8], at: usize) -> HeaderLine
+pub fn header_line_at(s: &[u8], at: usize) -> HeaderLine
     ensures { λ r. ⌜ r ≡ readHeader (now (s .entry)) at ⌝ }
 {
     if s.len() <= at {

@@ -3,12 +3,12 @@
 // A case is a letter, a length byte, and so many bytes: S, a script after its header; H, a script before
 // it; W, a register word, lowest byte first. The cases and the stored answers are what
 // second/readings.py makes, from document 01 alone.
-use block::Counts;
-use block::Register;
-use block::Step;
 use libc::STDOUT_FILENO;
 use lines::HeaderLine;
 use lines::StepLine;
+use parts::Counts;
+use parts::Register;
+use parts::Step;
 use ticket::CoreNo;
 use ticket::Ticket;
 use ticket::UnitNo;
@@ -67,7 +67,7 @@ fn wide(b: u8) -> u32
 }
 
 fn step(s: &[u8]) {
-    match lines::read_step(s, 0) {
+    match script::read_step(s, 0) {
         StepLine::Line(x, next) => step_line(x, next),
         StepLine::Finished => say(b"finished\n"),
         StepLine::Malformed => say(b"21\n"),
@@ -102,7 +102,7 @@ fn two(letter: &[u8], k: CoreNo, u: UnitNo, next: usize) {
 }
 
 fn header(s: &[u8]) {
-    match lines::read_header(s, 0) {
+    match script::read_header(s, 0) {
         HeaderLine::Header(c, n, next) => header_line(c, n, next),
         HeaderLine::BadHeader => say(b"20\n"),
         HeaderLine::Unfinished => say(b"22\n"),

@@ -8,10 +8,10 @@ use mathlib.Core.Path.{_≡_, refl, sym, subst}
 use native.Mathlib.Nat.{not-suc-le-zero}
 use native.Mathlib.Omega.{arith}
 use lib.ListN.{length}
-use Rattle.lines.specs.Writing.{fits}
+use Rattle.writing.specs.Writing.{fits}
 use Rattle.translate.specs.Call.{Desk, Ended, turn, halted, lines, translated}
-use Rattle.translate.specs.declared.run.Stop.{Stop}
-use Rattle.translate.specs.declared.run.Stop.the-variants.{NoRoom}
+use Rattle.stops.specs.declared.run.Stop.{Stop}
+use Rattle.stops.specs.declared.run.Stop.the-variants.{NoRoom}
 use Rattle.translate.proofs.Asked.{Reply, asked, after, asked-within, turn-on, turn-full, turn-halt}
 
 -- the next line is answered with a, and that fits

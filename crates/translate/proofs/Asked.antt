@@ -13,23 +13,24 @@ use Rattle.ticket.specs.declared.kinds.Ticket.{Ticket}
 use Rattle.block.specs.Build.{build}
 use Rattle.block.specs.Sound.{sound}
 use Rattle.block.specs.Steps.{step}
-use Rattle.block.specs.declared.answer.Step.{Step}
-use Rattle.block.specs.declared.table.Counts.{Counts}
+use Rattle.parts.specs.declared.answer.Step.{Step}
+use Rattle.parts.specs.declared.kinds.Counts.{Counts}
 use Rattle.block.specs.declared.table.Table.{Table}
 use Rattle.lines.specs.Bytes.{letterE}
 use Rattle.lines.specs.Reading.{readStep, readHeader}
-use Rattle.lines.specs.Writing.{headerBytes, expectedBytes, pasted, fits}
+use Rattle.writing.specs.Writing.{headerBytes, expectedBytes, pasted, fits}
 use Rattle.lines.specs.declared.reading.StepLine.{StepLine}
 use Rattle.lines.specs.declared.reading.StepLine.the-variants.{Line, Finished as Nothing, Malformed as NoStep, Unfinished as Cut}
 use Rattle.lines.specs.declared.reading.HeaderLine.{HeaderLine}
 use Rattle.lines.specs.declared.reading.HeaderLine.the-variants.{Header, BadHeader as NoHeader, Unfinished as CutHeader}
-use Rattle.translate.specs.Run.{stepsMost, stopNumber}
-use Rattle.translate.specs.Call.{Desk, judged, due, runAt, worked, opened, turn}
-use Rattle.translate.specs.declared.call.Todo.{Todo}
-use Rattle.translate.specs.declared.call.Todo.the-variants.{Work, Stop as Halt}
-use Rattle.translate.specs.declared.run.Run.{Run}
-use Rattle.translate.specs.declared.run.Stop.{Stop}
-use Rattle.translate.specs.declared.run.Stop.the-variants.{Finished, Unsound, BadHeader, Malformed, Unfinished, NoRoom, TooMany}
+use Rattle.stops.specs.Run.{stepsMost, stopNumber}
+use Rattle.stops.specs.Due.{judged, due}
+use Rattle.translate.specs.Call.{Desk, runAt, worked, opened, turn}
+use Rattle.stops.specs.declared.todo.Todo.{Todo}
+use Rattle.stops.specs.declared.todo.Todo.the-variants.{Work, Stop as Halt}
+use Rattle.stops.specs.declared.run.Run.{Run}
+use Rattle.stops.specs.declared.run.Stop.{Stop}
+use Rattle.stops.specs.declared.run.Stop.the-variants.{Finished, Unsound, BadHeader, Malformed, Unfinished, NoRoom, TooMany}
 use Rattle.translate.proofs.Fuel.{read-within, header-within}
 use Rattle.translate.proofs.Script.{read-more, header-more, stepOn, headerOn, past-on, read-on, header-on}
 

@@ -9,11 +9,11 @@ use native.Mathlib.Nat.{add-zero, not-suc-le-zero}
 use native.Mathlib.Omega.{arith}
 use lib.ListN.{length, length-append}
 use borrow.Author.Tests.{leb-false}
-use Rattle.lines.specs.Writing.{pasted}
+use Rattle.writing.specs.Writing.{pasted}
 use Rattle.translate.specs.Call.{Desk, Ended, runAt, translated, call}
-use Rattle.translate.specs.declared.run.Run.{Run}
-use Rattle.translate.specs.declared.run.Stop.{Stop}
-use Rattle.translate.specs.declared.run.Stop.the-variants.{NoRoom}
+use Rattle.stops.specs.declared.run.Run.{Run}
+use Rattle.stops.specs.declared.run.Stop.{Stop}
+use Rattle.stops.specs.declared.run.Stop.the-variants.{NoRoom}
 use Rattle.translate.proofs.Pasting.{fits-says, pasted-nothing, pasted-twice}
 use Rattle.translate.proofs.Asked.{Reply, asked, ran, after, asked-other, asked-within, asked-more, runOn, replyOn, askedOn, asked-on}
 use Rattle.translate.proofs.Along.{Goes, Halts, along}

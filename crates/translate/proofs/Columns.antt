@@ -11,16 +11,17 @@ use native.Mathlib.Omega.{arith}
 use lib.ListN.{length, take, drop, length-append, take-append-drop}
 use lib.Seq.{drop-drop}
 use Rattle.ticket.specs.declared.kinds.Ticket.{Ticket}
-use Rattle.block.proofs.Bools.{clash}
-use Rattle.block.specs.Build.{inRange, build}
-use Rattle.block.specs.declared.answer.Step.{Step}
-use Rattle.block.specs.declared.table.Counts.{Counts}
+use Rattle.parts.proofs.Bools.{clash}
+use Rattle.parts.specs.Range.{inRange}
+use Rattle.block.specs.Build.{build}
+use Rattle.parts.specs.declared.answer.Step.{Step}
+use Rattle.parts.specs.declared.kinds.Counts.{Counts}
 use Rattle.lines.specs.Bytes.{letterT}
-use Rattle.lines.specs.Writing.{stepBytes, headerBytes, pasted}
-use Rattle.lines.proofs.AsWritten.{step-read-is-written, header-read-is-written}
+use Rattle.writing.specs.Writing.{stepBytes, headerBytes, pasted}
+use Rattle.writing.proofs.AsWritten.{step-read-is-written, header-read-is-written}
 use Rattle.translate.specs.Call.{Desk, Ended, halted, translated}
 use Rattle.translate.specs.Columns.{script, tableAfter, columns, Columned, Opened, Untouched}
-use Rattle.translate.specs.declared.run.Stop.{Stop}
+use Rattle.stops.specs.declared.run.Stop.{Stop}
 use Rattle.translate.proofs.Fuel.{on, stop}
 use Rattle.translate.proofs.Pasting.{fits-says, pasted-nothing, pasted-twice}
 use Rattle.translate.proofs.Asked.{Reply, Stepping, Opening, stepReply, headerReply, after, asked-says}

@@ -3,17 +3,9 @@ use denote.Ref.{now}
 use mathlib.Core.Path.{sym, _∙_}
 use Rattle.ticket.specs.Determined.{Determines, DeterminesLeft}
 use Rattle.translate.proofs.call.translate.Reads as translate
-use Rattle.translate.proofs.run.beginning.Reads as beginning
-use Rattle.translate.proofs.run.stop_number.Reads as stop-number
 
 pub translate-determined : Determines translate.Post
 translate-determined κs a x y s t p q = p .0 ∙ sym (q .0)
 
 pub translate-left : DeterminesLeft (λ κs s. now (s .1 .1 .0)) translate.Post
 translate-left κs a x y s t p q = p .1 ∙ sym (q .1)
-
-pub beginning-determined : Determines beginning.Post
-beginning-determined κs a x y s t p q = p ∙ sym q
-
-pub stop-number-determined : Determines stop-number.Post
-stop-number-determined κs a x y s t p q = p ∙ sym q

@@ -11,15 +11,16 @@ use lib.Dec.{leb}
 use lib.ListN.{length, take, drop}
 use borrow.Author.Tests.{leb-false}
 use Rattle.ticket.specs.declared.kinds.Ticket.{Ticket}
-use Rattle.block.specs.Build.{inRange, build}
+use Rattle.parts.specs.Range.{inRange}
+use Rattle.block.specs.Build.{build}
 use Rattle.block.specs.Sound.{sound}
 use Rattle.block.specs.Steps.{step}
-use Rattle.block.specs.declared.answer.Step.{Step}
-use Rattle.block.specs.declared.table.Counts.{Counts}
+use Rattle.parts.specs.declared.answer.Step.{Step}
+use Rattle.parts.specs.declared.kinds.Counts.{Counts}
 use Rattle.block.specs.declared.table.Table.{Table}
 use Rattle.lines.specs.Bytes.{letterE}
 use Rattle.lines.specs.Reading.{lineEnd, parseStep, parseHeader, stepLine, headerLine, stepTo, headerTo, readStep, readHeader}
-use Rattle.lines.specs.Writing.{headerBytes, expectedBytes, fits}
+use Rattle.writing.specs.Writing.{headerBytes, expectedBytes, fits}
 use Rattle.lines.specs.declared.reading.Ending.{Ending}
 use Rattle.lines.specs.declared.reading.Ending.the-variants.{At, Long, Short}
 use Rattle.lines.specs.declared.reading.Parsed.{Parsed}
@@ -31,11 +32,12 @@ use Rattle.lines.specs.declared.reading.StepLine.the-variants.{Line, Finished a
 use Rattle.lines.specs.declared.reading.HeaderLine.{HeaderLine}
 use Rattle.lines.specs.declared.reading.HeaderLine.the-variants.{Header, BadHeader as NoHeader, Unfinished as CutHeader}
 use Rattle.lines.proofs.Turns.{found-within}
-use Rattle.translate.specs.Run.{stepsMost}
-use Rattle.translate.specs.Call.{Desk, judged, due, answered, worked, opened, turn, halted, lines, translated}
-use Rattle.translate.specs.declared.call.Todo.the-variants.{Stop as Halt}
-use Rattle.translate.specs.declared.run.Stop.{Stop}
-use Rattle.translate.specs.declared.run.Stop.the-variants.{Finished, NoRoom, TooMany}
+use Rattle.stops.specs.Run.{stepsMost}
+use Rattle.stops.specs.Due.{judged, due}
+use Rattle.translate.specs.Call.{Desk, answered, worked, opened, turn, halted, lines, translated}
+use Rattle.stops.specs.declared.todo.Todo.the-variants.{Stop as Halt}
+use Rattle.stops.specs.declared.run.Stop.{Stop}
+use Rattle.stops.specs.declared.run.Stop.the-variants.{Finished, NoRoom, TooMany}
 
 -- Where a line that is read ends
 

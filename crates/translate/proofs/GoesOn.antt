@@ -5,7 +5,7 @@ use mathlib.Core.List.{List, _++_}
 use mathlib.Core.Logic.{inl}
 use mathlib.Core.Path.{_≡_, refl, sym, _∙_, ap}
 use Rattle.translate.specs.Call.{Desk, Ended, turn, translated}
-use Rattle.translate.specs.declared.run.Stop.{Stop}
+use Rattle.stops.specs.declared.run.Stop.{Stop}
 use Rattle.translate.proofs.Fuel.{on}
 use Rattle.translate.proofs.Pasting.{fits-says, fits-more, pasted-more}
 use Rattle.translate.proofs.Asked.{Reply, ran, after, turn-on, asked-more}

@@ -7,13 +7,13 @@ use denote.Array.{each}
 use denote.Shadow.{shadow}
 use mir.Val.{Val}
 use lib.ListN.{length, getD, length-map}
-use Rattle.block.specs.Table.{cores, units, noUnit}
-use Rattle.block.specs.declared.table.LockUnit.{LockUnit}
+use Rattle.parts.specs.Parts.{cores, units, noUnit}
+use Rattle.parts.specs.declared.kinds.LockUnit.{LockUnit}
 use Rattle.block.specs.declared.table.Table.{Table}
 use Rattle.block.proofs.Access.{Shaped}
-use Rattle.block.proofs.table.LockUnit as U
-use Rattle.block.proofs.table.Register as R
-use Rattle.block.proofs.table.Core as C
+use Rattle.parts.proofs.kinds.LockUnit as U
+use Rattle.parts.proofs.kinds.Register as R
+use Rattle.parts.proofs.kinds.Core as C
 use Rattle.block.proofs.table.Table as T
 
 -- a unit by itself

@@ -11,7 +11,7 @@ use lib.ListN.{length, take, drop}
 use lib.Seq.{take-take, drop-drop}
 use Rattle.translate.specs.Call.{Desk, Ended, turn, translated}
 use Rattle.translate.specs.Columns.{Untouched}
-use Rattle.translate.specs.declared.run.Stop.{Stop}
+use Rattle.stops.specs.declared.run.Stop.{Stop}
 use Rattle.translate.proofs.Fuel.{stop}
 use Rattle.translate.proofs.Pasting.{fits-says, take-before, drop-after, pasted-length}
 use Rattle.translate.proofs.Asked.{Reply, after}

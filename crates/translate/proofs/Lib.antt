@@ -1,6 +1,7 @@
 pub mod Held
-pub mod Judging
 pub mod Fuel
+pub mod Rows
+pub mod InPlace
 pub mod Turning
 pub mod Script
 pub mod Pasting

@@ -7,7 +7,7 @@ use mathlib.Core.Path.{_≡_, _∙_, ap}
 use native.Mathlib.Omega.{arith}
 use lib.ListN.{length}
 use Rattle.translate.specs.Call.{Desk, Ended, runAt, turn, translated}
-use Rattle.translate.specs.declared.run.Stop.{Stop}
+use Rattle.stops.specs.declared.run.Stop.{Stop}
 use Rattle.translate.proofs.Fuel.{on, stop}
 use Rattle.translate.proofs.Pasting.{fits-on, pasted-on}
 use Rattle.translate.proofs.Asked.{Reply, asked, after, replyOn, runOn, askedOn, asked-on, turn-on}

@@ -9,7 +9,7 @@ use native.Mathlib.Omega.{arith}
 use lib.ListN.{length, take, drop, length-append, length-drop, take-append-drop}
 use lib.Seq.{drop-append-le, drop-append-add, take-append-le, take-append-add, take-at, drop-at, drop-drop, length-take-le}
 use borrow.Author.Tests.{leb-true, leb-false, le-leb, lt-leb}
-use Rattle.lines.specs.Writing.{pasted, fits}
+use Rattle.writing.specs.Writing.{pasted, fits}
 
 pub fits-says : (out : List ℕ) (at : ℕ) (xs : List ℕ) → fits out at xs ≡ true → at + length xs ≤ length out
 fits-says out at xs e = leb-true (at + length xs) (length out) e

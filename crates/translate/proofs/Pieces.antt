@@ -11,9 +11,9 @@ use lib.ListN.{length, take, drop, length-append, take-append-drop}
 use lib.Seq.{drop-append-add, length-take-le}
 use Rattle.translate.specs.Call.{Desk, Ended, call}
 use Rattle.translate.specs.Pieces.{Piece, Going, fromStart, begun, given, pieces, allMore, inOne}
-use Rattle.translate.specs.declared.run.Run.{Run}
-use Rattle.translate.specs.declared.run.Stop.{Stop}
-use Rattle.translate.specs.declared.run.Stop.the-variants.{NoRoom}
+use Rattle.stops.specs.declared.run.Run.{Run}
+use Rattle.stops.specs.declared.run.Stop.{Stop}
+use Rattle.stops.specs.declared.run.Stop.the-variants.{NoRoom}
 use Rattle.translate.proofs.Pasting.{take-with}
 use Rattle.translate.proofs.Asked.{Reply, asked, runOn, replyOn, askedOn, asked-on}
 use Rattle.translate.proofs.Along.{Halts}

@@ -10,9 +10,9 @@ use lib.ListN.{length, take, drop, length-append, length-drop}
 use lib.Seq.{drop-append-le, drop-append-add, take-append-le}
 use borrow.Author.Tests.{leb-true, leb-false, le-leb, lt-leb}
 use Rattle.ticket.specs.declared.kinds.Ticket.{Ticket}
-use Rattle.block.specs.Build.{inRange}
-use Rattle.block.specs.declared.answer.Step.{Step}
-use Rattle.block.specs.declared.table.Counts.{Counts}
+use Rattle.parts.specs.Range.{inRange}
+use Rattle.parts.specs.declared.answer.Step.{Step}
+use Rattle.parts.specs.declared.kinds.Counts.{Counts}
 use Rattle.lines.specs.Bytes.{end, lineMost}
 use Rattle.lines.specs.Reading.{ending, lineEnd, parseStep, parseHeader, stepLine, headerLine, stepTo, headerTo, readStep, readHeader}
 use Rattle.lines.specs.declared.reading.Ending.{Ending}

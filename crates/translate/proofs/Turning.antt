@@ -1,43 +1,44 @@
 -- One turn of the loop over the step lines: what is still to be answered, `whole`, stays the same over a line that is answered, and
 -- is what is handed back at one that stops the run.
-use Prim.Native.Nat.{ℕ, _+_, _≤_, _<_}
+use Prim.Native.Nat.{ℕ, _+_, _<_}
 use mathlib.Core.Bool.{Bool, true, false, cond}
-use mathlib.Core.List.{List, _++_}
-use mathlib.Core.Logic.{_⊎_, inl, inr}
+use mathlib.Core.List.{List}
+use mathlib.Core.Logic.{inl, inr}
 use mathlib.Core.Path.{_≡_, refl, sym, _∙_, ap}
 use native.Mathlib.Omega.{arith}
 use lib.Dec.{leb}
-use lib.ListN.{length, take, drop, length-append, length-drop}
-use lib.Seq.{length-take-le}
-use borrow.Author.Tests.{leb-true, leb-false}
+use lib.ListN.{length}
+use borrow.Author.Tests.{leb-false}
 use Rattle.ticket.specs.declared.kinds.Ticket.{Ticket}
 use Rattle.block.specs.Sound.{sound}
 use Rattle.block.specs.Steps.{onSound, step}
-use Rattle.block.specs.Build.{inRange, build}
-use Rattle.block.specs.declared.answer.Step.{Step}
-use Rattle.block.specs.declared.answer.Stepped.{Stepped}
+use Rattle.parts.specs.Range.{inRange}
+use Rattle.block.specs.Build.{build}
+use Rattle.parts.specs.declared.answer.Step.{Step}
+use Rattle.block.specs.declared.stepped.Stepped.{Stepped}
 use Rattle.block.specs.declared.building.Built.{Built}
-use Rattle.block.specs.declared.table.Counts.{Counts}
+use Rattle.parts.specs.declared.kinds.Counts.{Counts}
 use Rattle.block.specs.declared.table.Table.{Table}
 use Rattle.lines.specs.Bytes.{letterE}
 use Rattle.lines.specs.Reading.{readStep, readHeader}
-use Rattle.lines.specs.Writing.{headerBytes, expectedBytes, fits, pasted, wrote, left, wroteHeader, leftHeader}
+use Rattle.writing.specs.Writing.{headerBytes, expectedBytes, fits, wrote, left, wroteHeader, leftHeader}
 use Rattle.lines.specs.declared.reading.HeaderLine.{HeaderLine}
 use Rattle.lines.specs.declared.reading.HeaderLine.the-variants.{Header, BadHeader as NoHeader, Unfinished as CutHeader}
 use Rattle.lines.specs.declared.reading.StepLine.{StepLine}
 use Rattle.lines.specs.declared.reading.StepLine.the-variants.{Line, Finished as Nothing, Malformed as NoStep, Unfinished as Cut}
-use Rattle.lines.specs.declared.writing.Written.{Written}
-use Rattle.lines.specs.declared.writing.Written.the-variants.{Next, OutOfRange, NoRoom as Full}
-use Rattle.translate.specs.Run.{stepsMost}
-use Rattle.translate.specs.Call.{Desk, Ended, due, judged, runAt, stoppedAt, answered, stepped, worked, opened, turn, halted, translated, call}
-use Rattle.translate.specs.declared.call.Todo.{Todo}
-use Rattle.translate.specs.declared.call.Todo.the-variants.{Work, Stop as Halt}
-use Rattle.translate.specs.declared.run.Run.{Run}
-use Rattle.translate.specs.declared.run.Stop.{Stop}
-use Rattle.translate.specs.declared.run.Stop.the-variants.{NoRoom, Finished, TooMany, BadHeader, Unfinished}
-use Rattle.translate.specs.declared.run.Stopped.{Stopped}
-use Rattle.lines.proofs.AsWritten.{header-read-is-written}
-use Rattle.translate.proofs.Fuel.{read-within, on, stop}
+use Rattle.writing.specs.declared.writer.Written.{Written}
+use Rattle.writing.specs.declared.writer.Written.the-variants.{Next, OutOfRange, NoRoom as Full}
+use Rattle.stops.specs.Run.{stepsMost}
+use Rattle.stops.specs.Due.{due, judged}
+use Rattle.translate.specs.Call.{Desk, Ended, runAt, stoppedAt, answered, worked, opened, turn, translated, call}
+use Rattle.stops.specs.declared.todo.Todo.{Todo}
+use Rattle.stops.specs.declared.todo.Todo.the-variants.{Work, Stop as Halt}
+use Rattle.stops.specs.declared.run.Run.{Run}
+use Rattle.stops.specs.declared.run.Stop.{Stop}
+use Rattle.stops.specs.declared.run.Stop.the-variants.{NoRoom, Finished, TooMany, BadHeader, Unfinished}
+use Rattle.stops.specs.declared.run.Stopped.{Stopped}
+use Rattle.writing.proofs.AsWritten.{header-read-is-written}
+use Rattle.translate.proofs.Fuel.{on, stop}
 
 -- a line that is to be worked was read, in time, for a table that is fit
 pub record Working (s : List ℕ) (place steps : ℕ) (fit : Bool) (x : Step) (next : ℕ) : Type 0 where
@@ -194,17 +195,6 @@ begins r s out e =
     ap
     (λ (b : Bool). translated (record { run = record { place = r .place; wrote = r .wrote; table = r .table; steps = r .steps; headed = b }; out = out }) s)
     e
-
--- a line that is written, or not, leaves the output as long as it was
-pub left-long : (out : List ℕ) (at : ℕ) (xs o : List ℕ) → o ≡ left out at xs → length o ≡ length out
-left-long out at xs o e = ap length e ∙ go (fits out at xs) refl
-  where
-    go : (b : Bool) → fits out at xs ≡ b → length (cond b (pasted out at xs) out) ≡ length out
-    go true f =
-        let h = leb-true (at + length xs) (length out) f in
-        length-append (take at out) (xs ++ drop (at + length xs) out)
-        ∙ rw (length-append xs (drop (at + length xs) out), length-drop (at + length xs) out, length-take-le at out (omega arith)) (omega arith)
-    go false f = refl
 
 -- The header's line
 

@@ -2,49 +2,32 @@
 -- the run at the start of that line: complete output lines stand, all further output bytes and the table are unchanged. Refusals 10
 -- to 15 are expected answers; the run goes on."
 use Prim.Native.Nat.{ℕ, zero, suc, _+_, _-_}
-use mathlib.Core.Bool.{Bool, true, cond}
+use mathlib.Core.Bool.{true, cond}
 use mathlib.Core.List.{List}
 use mathlib.Core.Logic.{_⊎_, inl, inr, ⊎-elim}
-use lib.Dec.{leb}
 use lib.ListN.{length}
 use Rattle.block.specs.Build.{build}
 use Rattle.block.specs.Sound.{sound}
 use Rattle.block.specs.Steps.{step}
-use Rattle.block.specs.declared.answer.Step.{Step}
-use Rattle.block.specs.declared.answer.Stepped.{Stepped}
+use Rattle.parts.specs.declared.answer.Step.{Step}
 use Rattle.block.specs.declared.table.Table.{Table}
 use Rattle.lines.specs.Bytes.{letterE}
-use Rattle.lines.specs.Reading.{readStep, readHeader}
-use Rattle.lines.specs.Writing.{headerBytes, expectedBytes, pasted, fits}
-use Rattle.lines.specs.declared.reading.StepLine.{StepLine}
-use Rattle.lines.specs.declared.reading.StepLine.the-variants.{Line, Finished as Nothing, Malformed as NoStep, Unfinished as Cut}
+use Rattle.lines.specs.Reading.{readHeader}
+use Rattle.writing.specs.Writing.{headerBytes, expectedBytes, pasted, fits}
 use Rattle.lines.specs.declared.reading.HeaderLine.{HeaderLine}
 use Rattle.lines.specs.declared.reading.HeaderLine.the-variants.{Header, BadHeader as NoHeader, Unfinished as CutHeader}
-use Rattle.translate.specs.Run.{stepsMost}
-use Rattle.translate.specs.declared.call.Todo.{Todo}
-use Rattle.translate.specs.declared.call.Todo.the-variants.{Work, Stop as Halt}
-use Rattle.translate.specs.declared.run.Run.{Run}
-use Rattle.translate.specs.declared.run.Stop.{Stop}
-use Rattle.translate.specs.declared.run.Stop.the-variants.{Finished, Unsound, BadHeader, Malformed, Unfinished, NoRoom, TooMany}
-use Rattle.translate.specs.declared.run.Stopped.{Stopped}
+use Rattle.stops.specs.declared.todo.Todo.{Todo}
+use Rattle.stops.specs.declared.todo.Todo.the-variants.{Work, Stop as Halt}
+use Rattle.stops.specs.declared.run.Run.{Run}
+use Rattle.stops.specs.declared.run.Stop.{Stop}
+use Rattle.stops.specs.declared.run.Stop.the-variants.{Finished, BadHeader, Unfinished, NoRoom}
+use Rattle.stops.specs.declared.run.Stopped.{Stopped}
+use Rattle.stops.specs.Due.{due}
 
 -- what a call works on: the run so far, and what the output holds
 pub record Desk : Type 0 where
   pub run : Run
   pub out : List ℕ
-
--- a step line as it is read: 22, 21, and 16 on a table that is not sound
-abbrev pub judged : StepLine → Bool → Todo
-judged (Line x next) fit = cond fit (Work x next) (Halt Unsound)
-judged Nothing fit = Halt Finished
-judged NoStep fit = Halt Malformed
-judged Cut fit = Halt Unfinished
-
--- finished and 24 before them
-abbrev pub due : List ℕ → ℕ → ℕ → Bool → Todo
-due s place steps fit =
-    cond (leb (length s) place) (Halt Finished)
-    (cond (leb stepsMost steps) (Halt TooMany) (judged (readStep s place) fit))
 
 -- the run on a table, after a line
 abbrev pub runAt : ℕ → ℕ → Table → ℕ → Run

@@ -5,13 +5,14 @@ use mathlib.Core.List.{List, [], _∷_, _++_}
 use mathlib.Core.Path.{_≡_}
 use lib.ListN.{length, drop}
 use Rattle.ticket.specs.declared.kinds.Ticket.{Ticket}
-use Rattle.block.specs.Build.{inRange, build}
+use Rattle.parts.specs.Range.{inRange}
+use Rattle.block.specs.Build.{build}
 use Rattle.block.specs.Steps.{step}
-use Rattle.block.specs.declared.answer.Step.{Step}
-use Rattle.block.specs.declared.table.Counts.{Counts}
+use Rattle.parts.specs.declared.answer.Step.{Step}
+use Rattle.parts.specs.declared.kinds.Counts.{Counts}
 use Rattle.block.specs.declared.table.Table.{Table}
 use Rattle.lines.specs.Bytes.{letterT, letterE}
-use Rattle.lines.specs.Writing.{stepBytes, headerBytes, expectedBytes, pasted}
+use Rattle.writing.specs.Writing.{stepBytes, headerBytes, expectedBytes, pasted}
 use Rattle.translate.specs.Call.{Desk, Ended}
 
 -- the lines of steps, one after another

@@ -1,4 +1,4 @@
-pub mod Run
 pub mod Call
 pub mod Pieces
 pub mod Columns
+pub mod Registers

@@ -4,9 +4,9 @@ use Prim.Native.Nat.{ℕ}
 use mathlib.Core.List.{List, [], _∷_, _++_}
 use lib.ListN.{take, drop}
 use Rattle.translate.specs.Call.{Ended, call}
-use Rattle.translate.specs.declared.run.Run.{Run}
-use Rattle.translate.specs.declared.run.Stop.{Stop}
-use Rattle.translate.specs.declared.run.Stop.the-variants.{Finished}
+use Rattle.stops.specs.declared.run.Run.{Run}
+use Rattle.stops.specs.declared.run.Stop.{Stop}
+use Rattle.stops.specs.declared.run.Stop.the-variants.{Finished}
 
 -- for one call: the script bytes that came in, and the output bytes lent
 pub record Piece : Type 0 where

@@ -1,101 +1,159 @@
 // One call: lines are read, worked and answered until one stops the run, which then stands at its start.
-use crate::run::Run;
-use crate::run::STEPS_MOST;
-use crate::run::Stop;
-use crate::run::Stopped;
-use block::Step;
 use block::Table;
 use block::build;
 use lines::HeaderLine;
-use lines::StepLine;
-use lines::Written;
+use parts::CORES;
+use parts::Flags;
+use parts::LockUnit;
+use parts::Register;
+use parts::UNITS;
+use parts::core_of;
+use parts::flagged;
+use parts::flags_of;
+use parts::other_of;
+use parts::unit_of;
+use plan::Plan;
+use plan::plan_step;
+use stops::Run;
+use stops::Stop;
+use stops::Stopped;
+use stops::Todo;
+use stops::due;
+use writing::Written;
 ghost use mathlib.Core.Path.{_≡_};
 ghost use mathlib.Core.Bool.{true, false};
+ghost use Prim.Native.Nat.{_+_, _≤_};
+ghost use lib.Dec.{leb};
+ghost use lib.ListN.{length};
 ghost use Rattle.block.specs.Sound.{sound};
-ghost use Rattle.translate.specs.Call.{due, judged, stoppedAt, call};
+ghost use Rattle.parts.specs.Places.{flagsOf};
+ghost use Rattle.writing.specs.Text.{Puts};
+ghost use Rattle.writing.specs.Writing.{expectedBytes};
+ghost use Rattle.translate.specs.Call.{stoppedAt, call};
+ghost use Rattle.translate.specs.Registers.{unitWith, registersOf, withRegisters};
 
-// The line at a place after the header: a step to work, with the place after its line; or why the run
-// stops there. Room is asked for later.
-pub enum Todo {
-    Work(Step, usize),
-    Stop(Stop),
-}
-
-// Finished, 24, 22, 21, 16, in this order.
-fn due(script: &[u8], place: usize, steps: u32, fit: bool) -> Todo
-    ensures { λ r. ⌜ r ≡ due (now (script .entry)) place steps fit ⌝ }
+// The registers of a table's units: a run changes them one by one.
+fn registers_of(t: Table) -> [[Register; CORES]; UNITS]
+    ensures { λ r. ⌜ r ≡ registersOf t ⌝ }
 {
-    if script.len() <= place {
-        return Todo::Stop(Stop::Finished);
+    let x = t.units[0];
+    let r = x.registers;
+    let mut all = [r; UNITS];
+    let mut i = 0;
+    while i < UNITS {
+        let y = t.units[i];
+        let q = y.registers;
+        all[i] = q;
+        i += 1;
     }
-    if STEPS_MOST <= steps {
-        return Todo::Stop(Stop::TooMany);
-    }
-    match lines::read_step(script, place) {
-        StepLine::Line(s, next) => worked(s, next, fit),
-        StepLine::Finished => Todo::Stop(Stop::Finished),
-        StepLine::Malformed => Todo::Stop(Stop::Malformed),
-        StepLine::Unfinished => Todo::Stop(Stop::Unfinished),
-    }
+    all
 }
 
-// A step is worked on a table that is fit.
-fn worked(s: Step, next: usize, fit: bool) -> Todo
-    ensures { λ r. ⌜ r ≡ judged (StepLine.Line s next) fit ⌝ }
+// The table with these registers.
+fn with_registers(t: Table, all: [[Register; CORES]; UNITS]) -> Table
+    ensures { λ r. ⌜ r ≡ withRegisters t all ⌝ }
 {
-    if fit {
-        Todo::Work(s, next)
-    } else {
-        Todo::Stop(Stop::Unsound)
+    let mut table = t;
+    let mut i = 0;
+    while i < UNITS {
+        table.units[i] = LockUnit { registers: all[i] };
+        i += 1;
     }
+    table
 }
 
-fn stopped(place: usize, wrote: usize, table: Table, steps: u32, why: Stop) -> Stopped
-    ensures { λ r. ⌜ r ≡ stoppedAt place wrote table steps why ⌝ }
+// The run stopped, with its table and the registers of its units.
+fn stopped(run: Run, t: Table, all: [[Register; CORES]; UNITS], why: Stop) -> Stopped
+    ensures { λ r. ⌜ r ≡ stoppedAt (run .place) (run .wrote) (withRegisters t all) (run .steps) why ⌝ }
 {
     let run = Run {
-        place,
-        wrote,
-        table,
-        steps,
+        place: run.place,
+        wrote: run.wrote,
+        table: with_registers(t, all),
+        steps: run.steps,
         headed: true,
     };
     Stopped { run, why }
 }
 
-// The step lines from where the run stands, on a table of which it is known whether it is sound.
+// The unit of these registers.
+fn unit_with(registers: [Register; CORES]) -> LockUnit
+    ensures { λ r. ⌜ r ≡ unitWith registers ⌝ }
+{
+    LockUnit { registers }
+}
+
+// Where the flags of a planned step's grants are.
+fn flags(x: Plan) -> Flags
+    ensures { λ r. ⌜ r ≡ flagsOf (x .grants) ⌝ }
+{
+    let grants = x.grants;
+    flags_of(grants)
+}
+
+// Whether the line of a planned step fits.
+fn fits(len: usize, at: usize, number: u32, x: Plan) -> bool
+    ensures { λ r. ⌜ r ≡ leb (at + length (expectedBytes number (x .answer) (x .ticket) (x .grants))) len ⌝ }
+{
+    let answer = x.answer;
+    let ticket = x.ticket;
+    let grants = x.grants;
+    writing::expected_fits(len, at, number, answer, ticket, grants)
+}
+
+// The line of a planned step, where there is room.
+fn put_line(out: &mut [u8], at: usize, number: u32, x: Plan) -> usize
+    requires { ⌜ at + length (expectedBytes number (x .answer) (x .ticket) (x .grants)) ≤ length (now out) ⌝ }
+    ensures { λ r. ⌜ Puts (now (out .entry)) (now (out .exit)) at r (expectedBytes number (x .answer) (x .ticket) (x .grants)) ⌝ }
+{
+    let answer = x.answer;
+    let ticket = x.ticket;
+    let grants = x.grants;
+    writing::put_expected(out, at, number, answer, ticket, grants)
+}
+
+// The step lines from where the run stands, on a table of which it is known whether it is sound. A step is
+// worked by its parts, which are put back in place; the table's own units are not looked at meanwhile.
 fn step_lines(run: Run, fit: bool, script: &[u8], out: &mut [u8]) -> Stopped
     requires { ⌜ (run .headed ≡ true) × (fit ≡ sound (run .table)) ⌝ }
     ensures { λ r. ⌜ (r ≡ call run (now (script .entry)) (now (out .entry)) .stopped) × (now (out .exit) ≡ call run (now (script .entry)) (now (out .entry)) .out) ⌝ }
 {
+    let mut at = run;
     let mut table = run.table;
-    let mut steps = run.steps;
-    let mut place = run.place;
-    let mut wrote = run.wrote;
+    let mut units = registers_of(table);
     loop {
-        match due(script, place, steps, fit) {
-            Todo::Stop(why) => {
-                return stopped(place, wrote, table, steps, why);
-            }
+        match due(script, at.place, at.steps, fit) {
+            Todo::Stop(why) => return stopped(at, table, units, why),
             Todo::Work(s, next) => {
-                let x = table.step_sound(s);
-                let answer = x.answer;
-                let ticket = x.ticket;
-                let grants = x.grants;
-                match lines::write_expected(out, wrote, steps + 1, answer, ticket, grants) {
-                    Written::Next(w) => {
-                        table = x.table;
-                        steps += 1;
-                        place = next;
-                        wrote = w;
-                    }
-                    Written::OutOfRange => {
-                        return stopped(place, wrote, table, steps, Stop::NoRoom);
-                    }
-                    Written::NoRoom => {
-                        return stopped(place, wrote, table, steps, Stop::NoRoom); // 23
+                let k = core_of(s);
+                let c = table.cores[k];
+                let i = unit_of(s, c);
+                let j = other_of(s, c);
+                let a = unit_with(units[i]);
+                let b = unit_with(units[j]);
+                let x = plan_step(s, table.counts, table.counter, table.cores, c, a, b);
+                if !fits(out.len(), at.wrote, at.steps + 1, x) {
+                    return stopped(at, table, units, Stop::NoRoom); // 23
+                }
+                let first = x.first;
+                let second = x.second;
+                let core = x.core;
+                let counter = x.counter;
+                units[i][k] = first;
+                units[j][k] = second;
+                match flags(x) {
+                    Flags::None => {}
+                    Flags::One(u, w) => units[u][w] = flagged(units[u][w]),
+                    Flags::Two(u, w, v, z) => {
+                        units[u][w] = flagged(units[u][w]);
+                        units[v][z] = flagged(units[v][z]);
                     }
                 }
+                table.cores[k] = core;
+                table.counter = counter;
+                at.steps += 1;
+                at.place = next;
+                at.wrote = put_line(out, at.wrote, at.steps, x);
             }
         }
     }
@@ -109,9 +167,9 @@ fn from_header(run: Run, script: &[u8], out: &mut [u8]) -> Stopped
     let place = run.place;
     let wrote = run.wrote;
     let done = run.steps;
-    match lines::read_header(script, place) {
+    match script::read_header(script, place) {
         HeaderLine::Header(counts, counter, next) => {
-            match lines::write_opening(out, wrote, counts, counter) {
+            match writing::write_opening(out, wrote, counts, counter) {
                 Written::Next(w) => {
                     let built = build(counts, counter);
                     let table = built.table;

@@ -3,11 +3,5 @@
 //
 // Every public function is an entry: none has a `requires`.
 mod call;
-mod run;
 
 pub use call::translate;
-pub use run::Run;
-pub use run::Stop;
-pub use run::Stopped;
-pub use run::beginning;
-pub use run::stop_number;

@@ -5,8 +5,8 @@
 use libc::STDERR_FILENO;
 use libc::STDIN_FILENO;
 use libc::STDOUT_FILENO;
-use translate::Run;
-use translate::Stop;
+use stops::Run;
+use stops::Stop;
 ghost use Rattle.io.specs.Counts.{Counts};
 
 // The run, how many bytes of the piece are the script's, and whether to go on.
@@ -25,7 +25,7 @@ fn main() {
 // A turn reads, works a line, or is the last. A script of which every line is worked has at most
 // 1,000,001 lines of 14 bytes, so the turns are never used up.
 fn every_turn(input: &mut [u8], output: &mut [u8]) {
-    let run = translate::beginning();
+    let run = stops::beginning();
     let mut now = going(run, 0);
     let mut turns = u64::MAX;
     while 0 < turns {
@@ -157,7 +157,7 @@ fn last(run: Run, why: Stop) -> Progress {
 // The last line of the output, and what is wrong with the script's line at which the run stands.
 fn stop(run: Run, why: Stop) -> Progress {
     io::write_all(STDOUT_FILENO, b"X\t");
-    io::print_decimal(STDOUT_FILENO, translate::stop_number(why) as u64);
+    io::print_decimal(STDOUT_FILENO, stops::stop_number(why) as u64);
     io::write_all(STDOUT_FILENO, b"\n");
     io::write_all(STDERR_FILENO, b"line ");
     io::print_decimal(STDERR_FILENO, line_number(run));

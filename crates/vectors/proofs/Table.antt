@@ -1,7 +1,7 @@
 -- Every row of the table computes: antt runs the definitions on the row's numbers.
 use mathlib.Core.Path.{refl}
 use Rattle.ticket.specs.Order.{behind, topBit, after}
-use Rattle.block.specs.Fold.{upTo}
+use Rattle.parts.specs.Fold.{upTo}
 use Rattle.block.specs.Sound.{coreSound, unitSound, sound}
 use Rattle.block.specs.Steps.{onSound, step}
 use Rattle.lines.specs.Number.{scan, digits}

@@ -7,14 +7,15 @@ use mathlib.Core.Path.{_≡_}
 use lib.ListN.{length, replicate}
 use Rattle.ticket.specs.Kinds.{ticket}
 use Rattle.ticket.specs.Order.{older}
-use Rattle.block.specs.Table.{coreNo, unitNo, withCounter}
+use Rattle.parts.specs.Parts.{coreNo, unitNo}
+use Rattle.block.specs.Table.{withCounter}
 use Rattle.block.specs.Build.{fresh}
-use Rattle.block.specs.Answer.{numberOf}
+use Rattle.parts.specs.Answer.{numberOf}
 use Rattle.block.specs.Steps.{step}
-use Rattle.block.specs.declared.answer.Step.the-variants.{R}
-use Rattle.translate.specs.Run.{beginning}
+use Rattle.parts.specs.declared.answer.Step.the-variants.{R}
+use Rattle.stops.specs.Run.{beginning}
 use Rattle.translate.specs.Call.{call}
-use Rattle.translate.specs.declared.run.Stop.the-variants.{Finished}
+use Rattle.stops.specs.declared.run.Stop.the-variants.{Finished}
 use Rattle.words.specs.Word.{unpack}
 use Rattle.words.specs.declared.word.Unpacked.{Unpacked}
 use Rattle.words.specs.declared.word.Unpacked.the-variants.{Register as Shown, Refused as Bad}

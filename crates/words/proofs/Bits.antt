@@ -6,7 +6,7 @@ use mathlib.Core.Path.{_≡_, refl, sym, _∙_, ap}
 use native.Mathlib.Omega.{arith}
 use lib.Dec.{eqb}
 use borrow.Author.Tests.{eqb-true, eqb-false}
-use Rattle.block.specs.declared.table.Register.{Register}
+use Rattle.parts.specs.declared.kinds.Register.{Register}
 use Rattle.words.specs.Word.{bit, wordOf, registerOf}
 
 pub bit-most : (b : Bool) → bit b ≤ 1

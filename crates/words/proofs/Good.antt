@@ -7,12 +7,12 @@ use native.Mathlib.Omega.{arith}
 use lib.Dec.{eqb, leb}
 use lib.ListN.{length, getD}
 use borrow.Author.Tests.{eqb-true, leb-false, lt-leb, not-true, not-false}
-use Rattle.block.specs.Fold.{every}
-use Rattle.block.specs.Build.{inRange}
-use Rattle.block.specs.declared.table.Counts.{Counts}
-use Rattle.block.specs.declared.table.LockUnit.{LockUnit}
-use Rattle.block.proofs.Bools.{and-left, and-right, clash}
-use Rattle.block.proofs.Folds.{every-at}
+use Rattle.parts.specs.Fold.{every}
+use Rattle.parts.specs.Range.{inRange}
+use Rattle.parts.specs.declared.kinds.Counts.{Counts}
+use Rattle.parts.specs.declared.kinds.LockUnit.{LockUnit}
+use Rattle.parts.proofs.Bools.{and-left, and-right, clash}
+use Rattle.parts.proofs.Folds.{every-at}
 use Rattle.words.specs.Word.{fits, registerOf, unpack}
 use Rattle.words.specs.Image.{wordCount, registerAt, isGood, goodWord, goodImage, writable}
 

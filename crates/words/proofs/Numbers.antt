@@ -4,10 +4,10 @@ use mathlib.Core.Bool.{Bool, true, false, cond}
 use mathlib.Core.List.{List}
 use mathlib.Core.Path.{_≡_, refl}
 use lib.Dec.{leb}
-use Rattle.block.specs.Build.{inRange}
-use Rattle.block.specs.declared.table.Counts.{Counts}
-use Rattle.block.specs.declared.table.LockUnit.{LockUnit}
-use Rattle.block.specs.declared.table.Register.{Register}
+use Rattle.parts.specs.Range.{inRange}
+use Rattle.parts.specs.declared.kinds.Counts.{Counts}
+use Rattle.parts.specs.declared.kinds.LockUnit.{LockUnit}
+use Rattle.parts.specs.declared.kinds.Register.{Register}
 use Rattle.words.specs.Word.{fits, wordOf, pack, registerOf, unpack, packedNumber, unpackedNumber}
 use Rattle.words.specs.Image.{goodImage, readImage, writable, writeAnswer, imageNumber}
 use Rattle.words.specs.declared.word.Packed.the-variants.{Word, Refused}

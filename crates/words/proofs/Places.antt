@@ -9,12 +9,12 @@ use native.Mathlib.Omega.{arith}
 use lib.ListN.{length, getD, set, replicate, length-set, getD-replicate}
 use lib.Seq.{getD-set-same, getD-set-other}
 use Rattle.ticket.specs.Kinds.{ticket}
-use Rattle.block.specs.Fold.{upTo}
-use Rattle.block.specs.Table.{cores, units, blank, idle, noUnit}
-use Rattle.block.specs.Build.{inRange}
-use Rattle.block.specs.declared.table.Counts.{Counts}
-use Rattle.block.specs.declared.table.LockUnit.{LockUnit}
-use Rattle.block.specs.declared.table.Register.{Register}
+use Rattle.parts.specs.Fold.{upTo}
+use Rattle.parts.specs.Parts.{cores, units, blank, idle, noUnit}
+use Rattle.parts.specs.Range.{inRange}
+use Rattle.parts.specs.declared.kinds.Counts.{Counts}
+use Rattle.parts.specs.declared.kinds.LockUnit.{LockUnit}
+use Rattle.parts.specs.declared.kinds.Register.{Register}
 use Rattle.block.specs.declared.table.Table.{Table}
 use Rattle.block.proofs.Access.{Shaped, same-or-not, register-same, register-core, register-unit, shaped-register}
 use Rattle.block.proofs.Along.{along, to-last}

@@ -8,10 +8,10 @@ use lib.Dec.{leb}
 use mir.Syntax.{w64}
 use mir.Val.{Fits}
 use borrow.Author.Tests.{leb-true}
-use Rattle.block.specs.Table.{cores, units}
-use Rattle.block.specs.Build.{perClass, inRange}
-use Rattle.block.specs.declared.table.Counts.{Counts}
-use Rattle.block.proofs.Bools.{and-left, and-right}
+use Rattle.parts.specs.Parts.{cores, units}
+use Rattle.parts.specs.Range.{perClass, inRange}
+use Rattle.parts.specs.declared.kinds.Counts.{Counts}
+use Rattle.parts.proofs.Bools.{and-left, and-right}
 use Rattle.words.specs.Image.{wordCount}
 
 -- the tests of the range, as orders of numbers

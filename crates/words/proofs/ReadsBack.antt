@@ -10,12 +10,12 @@ use lib.ListN.{length, getD, set}
 use lib.Seq.{ext-getD}
 use borrow.Author.Tests.{lt-leb, eq-eqb}
 use Rattle.ticket.specs.Kinds.{ticket}
-use Rattle.block.specs.Build.{inRange}
-use Rattle.block.specs.declared.table.Counts.{Counts}
-use Rattle.block.specs.declared.table.LockUnit.{LockUnit}
-use Rattle.block.specs.declared.table.Register.{Register}
-use Rattle.block.proofs.Bools.{and-both}
-use Rattle.block.proofs.Folds.{at-every, every-cong}
+use Rattle.parts.specs.Range.{inRange}
+use Rattle.parts.specs.declared.kinds.Counts.{Counts}
+use Rattle.parts.specs.declared.kinds.LockUnit.{LockUnit}
+use Rattle.parts.specs.declared.kinds.Register.{Register}
+use Rattle.parts.proofs.Bools.{and-both}
+use Rattle.parts.proofs.Folds.{at-every, every-cong}
 use Rattle.block.proofs.Along.{upTo-cong}
 use Rattle.words.specs.Word.{fits, wordOf, pack, registerOf, unpack}
 use Rattle.words.specs.Image.{wordCount, registerAt, isGood, goodWord, goodImage, unitsOf, readImage, writable, wordsInto, writeAnswer, writeLeft}

@@ -7,12 +7,12 @@ use mathlib.Core.Bool.{Bool, true, false, cond, _&&_}
 use mathlib.Core.List.{List}
 use lib.Dec.{eqb}
 use lib.ListN.{length, getD, set, replicate}
-use Rattle.block.specs.Fold.{upTo, every}
-use Rattle.block.specs.Table.{cores, units, blank, noUnit, registerIn}
-use Rattle.block.specs.Build.{inRange}
-use Rattle.block.specs.declared.table.Register.{Register}
-use Rattle.block.specs.declared.table.LockUnit.{LockUnit}
-use Rattle.block.specs.declared.table.Counts.{Counts}
+use Rattle.parts.specs.Fold.{upTo, every}
+use Rattle.parts.specs.Parts.{cores, units, blank, noUnit, registerIn}
+use Rattle.parts.specs.Range.{inRange}
+use Rattle.parts.specs.declared.kinds.Register.{Register}
+use Rattle.parts.specs.declared.kinds.LockUnit.{LockUnit}
+use Rattle.parts.specs.declared.kinds.Counts.{Counts}
 use Rattle.words.specs.Word.{fits, wordOf, registerOf, unpack}
 use Rattle.words.specs.declared.word.Unpacked.{Unpacked}
 use Rattle.words.specs.declared.word.Unpacked.the-variants.{Register as Shown, Refused as Bad}

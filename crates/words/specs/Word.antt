@@ -4,7 +4,7 @@ use Prim.Native.Nat.{ℕ, _+_, _*_, _/_, _%_}
 use mathlib.Core.Bool.{Bool, true, false, cond, _&&_, _||_, not}
 use lib.Dec.{eqb, leb}
 use Rattle.ticket.specs.Kinds.{ticket}
-use Rattle.block.specs.declared.table.Register.{Register}
+use Rattle.parts.specs.declared.kinds.Register.{Register}
 use Rattle.words.specs.declared.word.Packed.{Packed}
 use Rattle.words.specs.declared.word.Packed.the-variants.{Word, Refused}
 use Rattle.words.specs.declared.word.Unpacked.{Unpacked}

@@ -1,5 +1,5 @@
 // A register word: bits 0 to 15 ticket, bit 16 valid, bit 17 flag, the rest 0.
-use block::Register;
+use parts::Register;
 use ticket::Ticket;
 ghost use mathlib.Core.Path.{_≡_};
 ghost use Prim.Native.Nat.{_<_};

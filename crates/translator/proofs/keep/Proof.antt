@@ -2,10 +2,9 @@
 -- what is left to move.
 use Prim.Native.Nat.{_-_, _≤_}
 use mathlib.Core.Path.{_≡_, _∙_}
-use lib.ListN.{length}
+use lib.ListN.{length, length-set}
 use borrow.Author.Needs.{needs}
 use native.Mathlib.Omega.{arith}
-use lib.ListN.{length-set}
 use Rattle.translator.proofs.Counting.{kept-counts}
 use Rattle.translator.proofs.keep.Statement.{statement}
 use Rattle.translator.proofs.keep.Tie as tie

@@ -4,10 +4,11 @@ use mathlib.Core.Bool.{Bool, true, false}
 use mathlib.Core.Path.{_≡_, sym, _∙_}
 use Rattle.ticket.specs.Kinds.{ticket}
 use Rattle.ticket.specs.declared.kinds.Ticket.{Ticket}
-use Rattle.block.specs.Build.{inRange, fresh, build}
-use Rattle.block.specs.declared.table.Counts.{Counts}
+use Rattle.parts.specs.Range.{inRange}
+use Rattle.block.specs.Build.{fresh, build}
+use Rattle.parts.specs.declared.kinds.Counts.{Counts}
 use Rattle.block.specs.declared.table.Table.{Table}
-use Rattle.block.specs.declared.answer.Answer.the-variants.{Done, OutOfRange}
+use Rattle.parts.specs.declared.answer.Answer.the-variants.{Done, OutOfRange}
 use Rattle.block.specs.declared.building.Built.{Built}
 use Rattle.block.proofs.building.build.Statement.{statement}
 use Rattle.block.proofs.building.build.Tie as tie

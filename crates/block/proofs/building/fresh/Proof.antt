@@ -3,11 +3,11 @@ use borrow.Author.Needs.{needs}
 use mathlib.Core.Path.{_≡_}
 use lib.ListN.{replicate}
 use Rattle.ticket.specs.declared.kinds.Ticket.{Ticket}
-use Rattle.block.specs.Table.{cores, units, blank, idle}
+use Rattle.parts.specs.Parts.{cores, units, blank, idle}
 use Rattle.block.specs.Build.{fresh}
-use Rattle.block.specs.declared.table.Counts.{Counts}
-use Rattle.block.specs.declared.table.Register.{Register}
-use Rattle.block.specs.declared.table.Core.{Core}
+use Rattle.parts.specs.declared.kinds.Counts.{Counts}
+use Rattle.parts.specs.declared.kinds.Register.{Register}
+use Rattle.parts.specs.declared.kinds.Core.{Core}
 use Rattle.block.specs.declared.table.Table.{Table}
 use Rattle.block.proofs.building.fresh.Statement.{statement}
 use Rattle.block.proofs.building.fresh.Tie as tie

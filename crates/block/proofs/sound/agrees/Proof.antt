@@ -4,10 +4,10 @@ use Prim.Native.Nat.{ℕ}
 use mathlib.Core.Bool.{Bool, true, false, _&&_}
 use mathlib.Core.Path.{_≡_, sym, _∙_, ap}
 use lib.Dec.{eqb}
-use Rattle.block.specs.State.{stands, holdsFirst, holdsBoth, twoStage}
+use Rattle.parts.specs.State.{stands, holdsFirst, holdsBoth, twoStage}
 use Rattle.block.specs.Sound.{isBlank, shows, agrees}
-use Rattle.block.specs.declared.table.Core.{Core}
-use Rattle.block.specs.declared.table.Register.{Register}
+use Rattle.parts.specs.declared.kinds.Core.{Core}
+use Rattle.parts.specs.declared.kinds.Register.{Register}
 use Rattle.block.proofs.sound.agrees.Statement.{statement}
 use Rattle.block.proofs.sound.agrees.Tie as tie
 

@@ -2,9 +2,9 @@
 use borrow.Author.Needs.{needs}
 use Prim.Native.Nat.{ℕ, _≤_, _-_}
 use mathlib.Core.Path.{_≡_}
-use Rattle.block.specs.Fold.{some}
-use Rattle.block.specs.Table.{cores, registerIn}
-use Rattle.block.proofs.Folds.{none, more, finished}
+use Rattle.parts.specs.Fold.{some}
+use Rattle.parts.specs.Parts.{cores, registerIn}
+use Rattle.parts.proofs.Folds.{none, more, finished}
 use Rattle.block.proofs.sound.any_valid.Statement.{statement}
 use Rattle.block.proofs.sound.any_valid.Tie as tie
 

@@ -7,12 +7,12 @@ use mathlib.Core.Path.{_≡_, sym, _∙_, ap₂}
 use lib.Dec.{eqb}
 use lib.ListN.{getD}
 use Rattle.ticket.specs.Order.{older}
-use Rattle.block.specs.Fold.{some}
-use Rattle.block.specs.State.{twoStage}
-use Rattle.block.specs.Table.{cores, idle}
+use Rattle.parts.specs.Fold.{some}
+use Rattle.parts.specs.State.{twoStage}
+use Rattle.parts.specs.Parts.{cores, idle}
 use Rattle.block.specs.Seen.{ofCores}
 use Rattle.block.specs.Sound.{lends, carries}
-use Rattle.block.specs.declared.table.Core.{Core}
+use Rattle.parts.specs.declared.kinds.Core.{Core}
 use Rattle.block.proofs.sound.carries.Statement.{statement}
 use Rattle.block.proofs.sound.carries.Tie as tie
 

@@ -1,7 +1,7 @@
 -- `block::sound::core_sound` meets its contract: the clauses, each as its function gives it.
 use borrow.Author.Needs.{needs}
 use Rattle.block.specs.Sound.{coreSound}
-use Rattle.block.proofs.Bools.{both}
+use Rattle.parts.proofs.Bools.{both}
 use Rattle.block.proofs.sound.core_sound.Statement.{statement}
 use Rattle.block.proofs.sound.core_sound.Tie as tie
 

@@ -2,12 +2,12 @@
 use borrow.Author.Needs.{needs}
 use Prim.Native.Nat.{_≤_, _-_}
 use mathlib.Core.Path.{_≡_}
-use Rattle.block.specs.Fold.{every}
-use Rattle.block.specs.Table.{cores}
+use Rattle.parts.specs.Fold.{every}
+use Rattle.parts.specs.Parts.{cores}
 use Rattle.block.specs.Seen.{seen}
 use Rattle.block.specs.Sound.{coreSound}
-use Rattle.block.proofs.Folds.{none, finished}
-use Rattle.block.proofs.Loops.{every-more}
+use Rattle.parts.proofs.Folds.{none, finished}
+use Rattle.parts.proofs.Loops.{every-more}
 use Rattle.block.proofs.sound.cores_sound.Statement.{statement}
 use Rattle.block.proofs.sound.cores_sound.Tie as tie
 

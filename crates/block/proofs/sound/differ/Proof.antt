@@ -1,6 +1,6 @@
 -- `block::sound::differ` meets its contract: the definition's own tests, the states' as `is_idle` gives them.
 use borrow.Author.Needs.{needs}
-use Rattle.block.proofs.Bools.{either}
+use Rattle.parts.proofs.Bools.{either}
 use Rattle.block.proofs.sound.differ.Statement.{statement}
 use Rattle.block.proofs.sound.differ.Tie as tie
 

@@ -1,6 +1,6 @@
 -- `block::sound::idle_blank` meets its contract: the definition's own tests, the first as `is_idle` gives it.
 use borrow.Author.Needs.{needs}
-use Rattle.block.proofs.Bools.{either, flipped}
+use Rattle.parts.proofs.Bools.{either, flipped}
 use Rattle.block.proofs.sound.idle_blank.Statement.{statement}
 use Rattle.block.proofs.sound.idle_blank.Tie as tie
 

@@ -1,6 +1,6 @@
 -- `block::sound::lends` meets its contract: the definition's own tests, the first as `unserved` gives it.
 use borrow.Author.Needs.{needs}
-use Rattle.block.proofs.Bools.{both}
+use Rattle.parts.proofs.Bools.{both}
 use Rattle.block.proofs.sound.lends.Statement.{statement}
 use Rattle.block.proofs.sound.lends.Tie as tie
 

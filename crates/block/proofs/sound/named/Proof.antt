@@ -2,11 +2,11 @@
 use borrow.Author.Needs.{needs}
 use mathlib.Core.Bool.{Bool, _||_}
 use mathlib.Core.Path.{_≡_, _∙_, ap, ap₂}
-use Rattle.block.specs.State.{isIdle, twoStage}
+use Rattle.parts.specs.State.{isIdle, twoStage}
 use Rattle.block.specs.Seen.{ofCounts}
 use Rattle.block.specs.Sound.{names, named}
-use Rattle.block.specs.declared.table.Core.{Core}
-use Rattle.block.specs.declared.table.Counts.{Counts}
+use Rattle.parts.specs.declared.kinds.Core.{Core}
+use Rattle.parts.specs.declared.kinds.Counts.{Counts}
 use Rattle.block.proofs.sound.named.Statement.{statement}
 use Rattle.block.proofs.sound.named.Tie as tie
 

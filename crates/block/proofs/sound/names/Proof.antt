@@ -6,8 +6,8 @@ use mathlib.Core.Path.{_≡_}
 use lib.Dec.{leb, ltb}
 use Rattle.block.specs.Seen.{ofCounts}
 use Rattle.block.specs.Sound.{names}
-use Rattle.block.specs.declared.table.Core.{Core}
-use Rattle.block.specs.declared.table.Counts.{Counts}
+use Rattle.parts.specs.declared.kinds.Core.{Core}
+use Rattle.parts.specs.declared.kinds.Counts.{Counts}
 use Rattle.block.proofs.sound.names.Statement.{statement}
 use Rattle.block.proofs.sound.names.Tie as tie
 

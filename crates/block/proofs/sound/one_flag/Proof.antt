@@ -4,10 +4,10 @@ use Prim.Native.Nat.{ℕ}
 use mathlib.Core.Bool.{Bool}
 use mathlib.Core.Path.{_≡_, _∙_, ap, ap₂}
 use lib.Dec.{eqb}
-use Rattle.block.specs.Fold.{one}
-use Rattle.block.specs.Settle.{flags}
+use Rattle.parts.specs.Fold.{one}
+use Rattle.plan.specs.Settle.{flags}
 use Rattle.block.specs.Sound.{anyValid, oneFlag}
-use Rattle.block.specs.declared.table.LockUnit.{LockUnit}
+use Rattle.parts.specs.declared.kinds.LockUnit.{LockUnit}
 use Rattle.block.proofs.sound.one_flag.Statement.{statement}
 use Rattle.block.proofs.sound.one_flag.Tie as tie
 

@@ -6,10 +6,10 @@ use mathlib.Core.Path.{_≡_, ap₂}
 use lib.Dec.{leb}
 use Rattle.ticket.specs.Order.{half, behind}
 use Rattle.ticket.specs.declared.kinds.Ticket.{Ticket}
-use Rattle.block.specs.State.{isIdle}
+use Rattle.parts.specs.State.{isIdle}
 use Rattle.block.specs.Seen.{ofCounter}
 use Rattle.block.specs.Sound.{recent}
-use Rattle.block.specs.declared.table.Core.{Core}
+use Rattle.parts.specs.declared.kinds.Core.{Core}
 use Rattle.block.proofs.sound.recent.Statement.{statement}
 use Rattle.block.proofs.sound.recent.Tie as tie
 

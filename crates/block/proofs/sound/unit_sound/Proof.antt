@@ -1,6 +1,6 @@
 -- `block::sound::unit_sound` meets its contract: the clauses, each as its function gives it.
 use borrow.Author.Needs.{needs}
-use Rattle.block.proofs.Bools.{both}
+use Rattle.parts.proofs.Bools.{both}
 use Rattle.block.proofs.sound.unit_sound.Statement.{statement}
 use Rattle.block.proofs.sound.unit_sound.Tie as tie
 

@@ -1,6 +1,6 @@
 -- `block::sound::within` meets its contract: the definition's own tests, the second as `is_idle` gives it.
 use borrow.Author.Needs.{needs}
-use Rattle.block.proofs.Bools.{either}
+use Rattle.parts.proofs.Bools.{either}
 use Rattle.block.proofs.sound.within.Statement.{statement}
 use Rattle.block.proofs.sound.within.Tie as tie
 

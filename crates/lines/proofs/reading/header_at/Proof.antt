@@ -5,8 +5,8 @@ use mathlib.Core.Bool.{Bool, true, false}
 use mathlib.Core.List.{List}
 use borrow.Author.Needs.{needs}
 use Rattle.ticket.specs.declared.kinds.Ticket.{Ticket}
-use Rattle.block.specs.Build.{inRange}
-use Rattle.block.specs.declared.table.Counts.{Counts}
+use Rattle.parts.specs.Range.{inRange}
+use Rattle.parts.specs.declared.kinds.Counts.{Counts}
 use Rattle.lines.specs.Reading.{parseHeader, headerLine}
 use Rattle.lines.specs.declared.reading.ParsedHeader.{ParsedHeader}
 use Rattle.lines.specs.declared.reading.ParsedHeader.the-variants.{Good, Not}

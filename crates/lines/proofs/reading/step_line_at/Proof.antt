@@ -1,15 +1,18 @@
--- `lines::reading::step_line_at` meets its contract: the case of what `line_end` gives; the line that it gives lies within the script.
-use Prim.Native.Nat.{ℕ, _≤_, _<_}
+-- `lines::reading::step_line_at` meets its contract: a short line reads as any line does, and any other goes to `any_line`.
+use Prim.Native.Nat.{ℕ, _+_, _≤_}
 use mathlib.Core.List.{List}
 use mathlib.Core.Path.{_≡_, sym, _∙_, ap}
 use lib.ListN.{length}
-use borrow.Author.Tests.{le-leb, lt-leb}
+use borrow.Author.Tests.{le-leb}
 use borrow.Author.Needs.{needs}
-use Rattle.lines.specs.Reading.{lineEnd, stepTo, readStep}
-use Rattle.lines.specs.declared.reading.Ending.{Ending}
+use Rattle.lines.specs.Reading.{oneNumber, twoNumbers, stepLine, readStep}
+use Rattle.lines.specs.ShortLine.{shortLine}
+use Rattle.lines.specs.declared.reading.Parsed.{Parsed}
+use Rattle.lines.specs.declared.reading.Short.{Short}
+use Rattle.lines.specs.declared.reading.Short.the-variants.{One, Two}
 use Rattle.lines.specs.declared.reading.StepLine.{StepLine}
 use Rattle.lines.specs.declared.reading.StepLine.the-variants.{Finished}
-use Rattle.lines.proofs.Turns.{found-within}
+use Rattle.lines.proofs.Shortly.{short-one, short-two}
 use Rattle.lines.proofs.reading.step_line_at.Statement.{statement}
 use Rattle.lines.proofs.reading.step_line_at.Tie as tie
 
@@ -17,47 +20,74 @@ module _ (s : List ℕ) (at : ℕ) where
   past : length s ≤ at → Finished ≡ readStep s at
   past h = rw (le-leb (length s) at h)
 
-  lined : (w x : Ending) (r : StepLine) → at < length s → w ≡ lineEnd s at → w ≡ x → r ≡ stepTo s at x → r ≡ readStep s at
-  lined w x r h says is so = rw (lt-leb (length s) at h) (so ∙ ap (stepTo s at) (sym is ∙ says))
+  module _ (w : Short) (says : w ≡ shortLine s at) (p : Parsed) (r : StepLine) where
+    one : (l k : ℕ) → w ≡ One l k → p ≡ oneNumber l k → r ≡ stepLine p (at + 4) → r ≡ readStep s at
+    one l k e is so = so ∙ ap (λ (q : Parsed). stepLine q (at + 4)) is ∙ sym (short-one s at l k (sym says ∙ e))
+
+    two : (l k u : ℕ) → w ≡ Two l k u → p ≡ twoNumbers l k u → r ≡ stepLine p (at + 6) → r ≡ readStep s at
+    two l k u e is so = so ∙ ap (λ (q : Parsed). stepLine q (at + 6)) is ∙ sym (short-two s at l k u (sym says ∙ e))
 
 returns : tie.Need-returns
 returns c = search (past, needs)
 
-line-end-requires : tie.Need-line-end-requires
-line-end-requires c κs = search needs
+short-line-requires : tie.Need-short-line-requires
+short-line-requires c κs = search needs
 
-enum-known-e : tie.Need-enum-known-e
-enum-known-e c = search needs
+enum-known-letter : tie.Need-enum-known-letter
+enum-known-letter c = search needs
 
-step-at-requires : tie.Need-step-at-requires
-step-at-requires c κs =
-    found-within _ _ _ _ (c .before .before .before .before .if1 .left) (c .before .before .before .line-end .ensures) (c .before .e .given .1)
+one-number-requires : tie.Need-one-number-requires
+one-number-requires c κs = search needs
+
+add-found : tie.Need-add-found
+add-found c = search needs
+
+found-requires : tie.Need-found-requires
+found-requires c κs = search needs
+
+enum-known-letter-2 : tie.Need-enum-known-letter-2
+enum-known-letter-2 c = search needs
+
+two-numbers-requires : tie.Need-two-numbers-requires
+two-numbers-requires c κs = search needs
+
+add-found-2 : tie.Need-add-found-2
+add-found-2 c = search needs
+
+found-requires-2 : tie.Need-found-requires-2
+found-requires-2 c κs = search needs
 
 enum-told : tie.Need-enum-told
 enum-told c = search needs
 
-enum-told-2 : tie.Need-enum-told-2
-enum-told-2 c = search needs
+any-line-requires : tie.Need-any-line-requires
+any-line-requires c κs = search needs
 
 returns-2 : tie.Need-returns-2
-returns-2 c = search (lined, needs)
+returns-2 c = search one
 
 returns-3 : tie.Need-returns-3
-returns-3 c = search (lined, needs)
+returns-3 c = search two
 
 returns-4 : tie.Need-returns-4
-returns-4 c = search (lined, needs)
+returns-4 c = search needs
 
 pub step-line-at-spec : {M : Type 1} → statement M
 step-line-at-spec =
     tie.close
     (tie.spec
     returns
-    line-end-requires
-    enum-known-e
-    step-at-requires
+    short-line-requires
+    enum-known-letter
+    one-number-requires
+    add-found
+    found-requires
+    enum-known-letter-2
+    two-numbers-requires
+    add-found-2
+    found-requires-2
     enum-told
-    enum-told-2
+    any-line-requires
     returns-2
     returns-3
     returns-4)

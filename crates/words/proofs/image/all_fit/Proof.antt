@@ -4,12 +4,12 @@ use Prim.Native.Nat.{ℕ, _+_, _≤_, _-_}
 use mathlib.Core.Bool.{Bool, true, _&&_}
 use mathlib.Core.List.{List}
 use mathlib.Core.Path.{_≡_, _∙_, ap}
-use Rattle.block.specs.Fold.{every}
-use Rattle.block.specs.declared.table.Counts.{Counts}
-use Rattle.block.specs.declared.table.LockUnit.{LockUnit}
-use Rattle.block.specs.declared.table.Register.{Register}
-use Rattle.block.proofs.Folds.{none, finished}
-use Rattle.block.proofs.Loops.{every-more}
+use Rattle.parts.specs.Fold.{every}
+use Rattle.parts.specs.declared.kinds.Counts.{Counts}
+use Rattle.parts.specs.declared.kinds.LockUnit.{LockUnit}
+use Rattle.parts.specs.declared.kinds.Register.{Register}
+use Rattle.parts.proofs.Folds.{none, finished}
+use Rattle.parts.proofs.Loops.{every-more}
 use Rattle.words.specs.Word.{fits}
 use Rattle.words.specs.Image.{wordCount, registerAt}
 use Rattle.words.proofs.image.all_fit.Statement.{statement}

@@ -6,8 +6,8 @@ use mathlib.Core.List.{List}
 use mathlib.Core.Path.{_≡_, _∙_, ap₂}
 use lib.Dec.{eqb}
 use lib.ListN.{length}
-use Rattle.block.specs.Fold.{every}
-use Rattle.block.specs.declared.table.Counts.{Counts}
+use Rattle.parts.specs.Fold.{every}
+use Rattle.parts.specs.declared.kinds.Counts.{Counts}
 use Rattle.words.specs.Image.{wordCount, goodWord, goodImage}
 use Rattle.words.proofs.Good.{counted}
 use Rattle.words.proofs.image.good_image.Statement.{statement}

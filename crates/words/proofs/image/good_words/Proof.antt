@@ -3,9 +3,9 @@ use borrow.Author.Needs.{needs}
 use Prim.Native.Nat.{_≤_, _-_}
 use mathlib.Core.Path.{_≡_}
 use lib.ListN.{length}
-use Rattle.block.specs.Fold.{every}
-use Rattle.block.proofs.Folds.{none, finished}
-use Rattle.block.proofs.Loops.{every-more}
+use Rattle.parts.specs.Fold.{every}
+use Rattle.parts.proofs.Folds.{none, finished}
+use Rattle.parts.proofs.Loops.{every-more}
 use Rattle.words.specs.Image.{goodWord}
 use Rattle.words.proofs.image.good_words.Statement.{statement}
 use Rattle.words.proofs.image.good_words.Tie as tie

@@ -3,7 +3,7 @@ use borrow.Author.Needs.{needs}
 use Prim.Native.Nat.{ℕ}
 use mathlib.Core.Bool.{true, false}
 use mathlib.Core.Path.{_≡_, sym, _∙_, ap}
-use Rattle.block.specs.declared.table.Register.{Register}
+use Rattle.parts.specs.declared.kinds.Register.{Register}
 use Rattle.words.specs.Word.{unpack}
 use Rattle.words.specs.Image.{isGood}
 use Rattle.words.specs.declared.word.Unpacked.{Unpacked}

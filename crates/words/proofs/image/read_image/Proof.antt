@@ -4,9 +4,9 @@ use Prim.Native.Nat.{ℕ}
 use mathlib.Core.Bool.{Bool, true, false, not}
 use mathlib.Core.List.{List}
 use mathlib.Core.Path.{_≡_, sym, _∙_}
-use Rattle.block.specs.Build.{inRange}
-use Rattle.block.specs.declared.table.Counts.{Counts}
-use Rattle.block.specs.declared.table.LockUnit.{LockUnit}
+use Rattle.parts.specs.Range.{inRange}
+use Rattle.parts.specs.declared.kinds.Counts.{Counts}
+use Rattle.parts.specs.declared.kinds.LockUnit.{LockUnit}
 use Rattle.words.specs.Image.{emptyUnits, goodImage, unitsOf, readImage}
 use Rattle.words.specs.declared.image.Image.{Image}
 use Rattle.words.specs.declared.image.ImageAnswer.the-variants.{Done, OutOfRange, BadImage}

@@ -5,12 +5,12 @@ use mathlib.Core.Bool.{true}
 use mathlib.Core.List.{List}
 use mathlib.Core.Path.{_≡_, _∙_, ap}
 use lib.ListN.{length, getD, set}
-use Rattle.block.specs.Fold.{upTo}
-use Rattle.block.specs.Table.{noUnit}
-use Rattle.block.specs.declared.table.Counts.{Counts}
-use Rattle.block.specs.declared.table.LockUnit.{LockUnit}
-use Rattle.block.specs.declared.table.Register.{Register}
-use Rattle.block.proofs.Folds.{none, more, finished}
+use Rattle.parts.specs.Fold.{upTo}
+use Rattle.parts.specs.Parts.{noUnit}
+use Rattle.parts.specs.declared.kinds.Counts.{Counts}
+use Rattle.parts.specs.declared.kinds.LockUnit.{LockUnit}
+use Rattle.parts.specs.declared.kinds.Register.{Register}
+use Rattle.parts.proofs.Folds.{none, more, finished}
 use Rattle.words.specs.Word.{registerOf}
 use Rattle.words.specs.Image.{emptyUnits, placeWord, goodImage, unitsOf}
 use Rattle.words.proofs.Ranges.{divides, unit-in, unit-offset, core-in, core-offset}

@@ -5,9 +5,9 @@ use mathlib.Core.Bool.{Bool, _&&_}
 use mathlib.Core.List.{List}
 use mathlib.Core.Path.{_≡_, ap₂}
 use lib.Dec.{eqb}
-use Rattle.block.specs.Fold.{every}
-use Rattle.block.specs.declared.table.Counts.{Counts}
-use Rattle.block.specs.declared.table.LockUnit.{LockUnit}
+use Rattle.parts.specs.Fold.{every}
+use Rattle.parts.specs.declared.kinds.Counts.{Counts}
+use Rattle.parts.specs.declared.kinds.LockUnit.{LockUnit}
 use Rattle.words.specs.Word.{fits}
 use Rattle.words.specs.Image.{wordCount, registerAt, writable}
 use Rattle.words.proofs.image.writable.Statement.{statement}

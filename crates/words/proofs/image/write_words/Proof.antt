@@ -5,11 +5,11 @@ use mathlib.Core.List.{List}
 use mathlib.Core.Path.{_≡_, _∙_, ap}
 use native.Mathlib.Omega.{arith}
 use lib.ListN.{length, set}
-use Rattle.block.specs.Fold.{upTo}
-use Rattle.block.specs.declared.table.Counts.{Counts}
-use Rattle.block.specs.declared.table.LockUnit.{LockUnit}
-use Rattle.block.specs.declared.table.Register.{Register}
-use Rattle.block.proofs.Folds.{none, more, finished}
+use Rattle.parts.specs.Fold.{upTo}
+use Rattle.parts.specs.declared.kinds.Counts.{Counts}
+use Rattle.parts.specs.declared.kinds.LockUnit.{LockUnit}
+use Rattle.parts.specs.declared.kinds.Register.{Register}
+use Rattle.parts.proofs.Folds.{none, more, finished}
 use Rattle.words.specs.Word.{wordOf}
 use Rattle.words.specs.Image.{wordCount, registerAt, wordsInto}
 use Rattle.words.proofs.image.write_words.Statement.{statement}

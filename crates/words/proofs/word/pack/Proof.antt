@@ -3,7 +3,7 @@ use borrow.Author.Needs.{needs}
 use Prim.Native.Nat.{ℕ}
 use mathlib.Core.Bool.{Bool, true, false}
 use mathlib.Core.Path.{_≡_, sym, _∙_}
-use Rattle.block.specs.declared.table.Register.{Register}
+use Rattle.parts.specs.declared.kinds.Register.{Register}
 use Rattle.words.specs.Word.{fits, wordOf, pack}
 use Rattle.words.specs.declared.word.Packed.the-variants.{Word, Refused}
 use Rattle.words.proofs.word.pack.Statement.{statement}

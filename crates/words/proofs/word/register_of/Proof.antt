@@ -5,7 +5,7 @@ use native.Mathlib.Omega.{arith}
 use lib.Bits.{bitAnd, and-mask, mask-lt}
 use lib.Dec.{eqb}
 use Rattle.ticket.specs.Kinds.{ticket}
-use Rattle.block.specs.declared.table.Register.{Register}
+use Rattle.parts.specs.declared.kinds.Register.{Register}
 use Rattle.words.specs.Word.{registerOf}
 use Rattle.words.proofs.word.register_of.Statement.{statement}
 use Rattle.words.proofs.word.register_of.Tie as tie

@@ -2,13 +2,13 @@
 use borrow.Author.Needs.{needs}
 use mathlib.Core.Bool.{Bool, _&&_}
 use mathlib.Core.Path.{_≡_}
-use Rattle.block.specs.Fold.{every}
-use Rattle.block.specs.Table.{cores, units}
-use Rattle.block.specs.Build.{inRange}
+use Rattle.parts.specs.Fold.{every}
+use Rattle.parts.specs.Parts.{cores, units}
+use Rattle.parts.specs.Range.{inRange}
 use Rattle.block.specs.Seen.{seen}
 use Rattle.block.specs.Sound.{coreSound, unitSound, sound}
 use Rattle.block.specs.declared.table.Table.{Table}
-use Rattle.block.proofs.Bools.{both}
+use Rattle.parts.proofs.Bools.{both}
 use Rattle.block.proofs.table.Table.sound.Statement.{statement}
 use Rattle.block.proofs.table.Table.sound.Tie as tie
 

@@ -1,95 +1,125 @@
--- `Table::step_sound` meets its contract: each letter's arm is the step's own method.
+-- `Table::step_sound` meets its contract: the places are those of the arrays, and the step by its parts is the step.
 use borrow.Author.Needs.{needs}
-use mathlib.Core.Path.{sym, _∙_, ap}
+use Prim.Native.Nat.{ℕ, _<_}
+use mathlib.Core.Bool.{true}
+use mathlib.Core.Path.{_≡_, sym, _∙_, ap, subst}
+use native.Mathlib.Omega.{arith}
+use Rattle.parts.specs.Parts.{cores, units}
+use Rattle.block.specs.Table.{coreOf, unitOf}
+use Rattle.block.specs.Sound.{sound}
 use Rattle.block.specs.Steps.{onSound}
+use Rattle.parts.specs.Places.{corePlace, unitPlace, otherPlace}
+use Rattle.plan.specs.Plan.{planned}
+use Rattle.block.specs.PutBack.{steppedBy}
+use Rattle.parts.specs.declared.answer.Step.{Step}
+use Rattle.block.specs.declared.stepped.Stepped.{Stepped}
+use Rattle.plan.specs.declared.planning.Plan.{Plan}
+use Rattle.parts.specs.declared.kinds.Core.{Core}
+use Rattle.block.specs.declared.table.Table.{Table}
+use Rattle.block.proofs.Parts.{parts}
+use Rattle.parts.proofs.Ranging.{cores-few}
+use Rattle.parts.proofs.Placing.{core-place-within, unit-place-within, other-place-within}
+use Rattle.block.proofs.ByParts.{by-parts}
 use Rattle.block.proofs.table.Table.step_sound.Statement.{statement}
 use Rattle.block.proofs.table.Table.step_sound.Tie as tie
 
-enum-known-s : tie.Need-enum-known-s
-enum-known-s c = search needs
+-- places of the arrays
+core-in : (s : Step) (k : ℕ) → k ≡ corePlace s → k < cores
+core-in s k e = subst (λ (i : ℕ). i < cores) (sym e) (core-place-within s)
 
-request-requires : tie.Need-request-requires
-request-requires c κs = search needs
+unit-in : (s : Step) (c : Core) (i : ℕ) → i ≡ unitPlace s c → i < units
+unit-in s c i e = subst (λ (u : ℕ). u < units) (sym e) (unit-place-within s c)
 
-enum-known-s-2 : tie.Need-enum-known-s-2
-enum-known-s-2 c = search needs
+other-in : (s : Step) (c : Core) (j : ℕ) → j ≡ otherPlace s c → j < units
+other-in s c j e = subst (λ (u : ℕ). u < units) (sym e) (other-place-within s c)
 
-nest-requires : tie.Need-nest-requires
-nest-requires c κs = search needs
+module _ (t : Table) (s : Step) (fit : sound t ≡ true) where
+  -- the step with its core at place k and its units at i and j
+  abbrev at : ℕ → ℕ → ℕ → Stepped
+  at k i j = steppedBy t k i j (planned s (t .counts) (t .counter) (t .cores) (coreOf t k) (unitOf t i) (unitOf t j))
 
-enum-known-s-3 : tie.Need-enum-known-s-3
-enum-known-s-3 c = search needs
+  whole :
+      (k i j : ℕ) (p : Plan) (r : Stepped) →
+      k ≡ corePlace s →
+      i ≡ unitPlace s (coreOf t k) →
+      j ≡ otherPlace s (coreOf t k) →
+      p ≡ planned s (t .counts) (t .counter) (t .cores) (coreOf t k) (unitOf t i) (unitOf t j) →
+      r ≡ steppedBy t k i j p →
+      r ≡ onSound t s
+  whole k i j p r ek ei ej ep er =
+      er ∙
+      ap (steppedBy t k i j) ep ∙
+      ap (at k i) ej ∙
+      ap (λ (u : ℕ). at k u (otherPlace s (coreOf t k))) ei ∙
+      ap (λ (n : ℕ). at n (unitPlace s (coreOf t n)) (otherPlace s (coreOf t n))) ek ∙
+      by-parts t s fit
 
-poll-requires : tie.Need-poll-requires
-poll-requires c κs = search needs
+core-of-requires : tie.Need-core-of-requires
+core-of-requires c κs = search needs
 
-enum-known-s-4 : tie.Need-enum-known-s-4
-enum-known-s-4 c = search needs
+mul-c : tie.Need-mul-c
+mul-c c = omega (arith, core-in (c .before .before .before .before .args .s) (c .core-of .result) (c .core-of .ensures))
 
-interrupt-requires : tie.Need-interrupt-requires
-interrupt-requires c κs = search needs
+array-copy-out-c : tie.Need-array-copy-out-c
+array-copy-out-c c = core-in (c .before .before .before .before .args .s) (c .core-of .result) (c .core-of .ensures)
 
-enum-known-s-5 : tie.Need-enum-known-s-5
-enum-known-s-5 c = search needs
+unit-of-requires : tie.Need-unit-of-requires
+unit-of-requires c κs = search needs
 
-come-back-requires : tie.Need-come-back-requires
-come-back-requires c κs = search needs
+other-of-requires : tie.Need-other-of-requires
+other-of-requires c κs = search needs
 
-enum-known-s-6 : tie.Need-enum-known-s-6
-enum-known-s-6 c = search needs
+mul-x : tie.Need-mul-x
+mul-x c =
+    let b = c .before .before .before .before .before .before .before .args in
+    omega (arith, unit-in (b .s) (coreOf (b .t1) (c .before .before .before .core-of .result)) (c .before .unit-of .result) (c .before .unit-of .ensures))
 
-release-requires : tie.Need-release-requires
-release-requires c κs = search needs
+element-copy-out-x : tie.Need-element-copy-out-x
+element-copy-out-x c =
+    let b = c .before .before .before .before .before .before .before .args in
+    unit-in (b .s) (coreOf (b .t1) (c .before .before .before .core-of .result)) (c .before .unit-of .result) (c .before .unit-of .ensures)
+
+mul-y : tie.Need-mul-y
+mul-y c =
+    let b = c .before .before .before .before .before .before .before .before .args in
+    omega (arith, other-in (b .s) (coreOf (b .t1) (c .before .before .before .before .core-of .result)) (c .before .other-of .result) (c .before .other-of .ensures))
+
+element-copy-out-y : tie.Need-element-copy-out-y
+element-copy-out-y c =
+    let b = c .before .before .before .before .before .before .before .before .args in
+    other-in (b .s) (coreOf (b .t1) (c .before .before .before .before .core-of .result)) (c .before .other-of .result) (c .before .other-of .ensures)
+
+plan-step-requires : tie.Need-plan-step-requires
+plan-step-requires c κs =
+    let b = c .before .before .before .before .before .before .before .before .before in
+    cores-few (b .args .t1 .counts) (parts (b .args .t1) (b .pre) .counts)
+
+stepped-by-requires : tie.Need-stepped-by-requires
+stepped-by-requires c κs =
+    let b = c .before .before .before .before .before .before .before .before .before .before .args in
+    let d = coreOf (b .t1) (c .before .before .before .before .before .before .core-of .result) in
+    let first = unit-in (b .s) d (c .before .before .before .before .unit-of .result) (c .before .before .before .before .unit-of .ensures) in
+    let second = other-in (b .s) d (c .before .before .before .other-of .result) (c .before .before .before .other-of .ensures) in
+    (core-in (b .s) (c .before .before .before .before .before .before .core-of .result) (c .before .before .before .before .before .before .core-of .ensures), omega (arith, first, second), omega (arith, first, second))
 
 returns : tie.Need-returns
-unfolding onSound
 returns c =
-    c .request .ensures ∙ ap (onSound (c .before .before .before .before .args .self)) (sym (c .before .before .s .given .1))
-
-returns-2 : tie.Need-returns-2
-unfolding onSound
-returns-2 c =
-    c .nest .ensures ∙ ap (onSound (c .before .before .before .before .args .self)) (sym (c .before .before .s2 .given .1))
-
-returns-3 : tie.Need-returns-3
-unfolding onSound
-returns-3 c =
-    c .poll .ensures ∙ ap (onSound (c .before .before .before .before .args .self)) (sym (c .before .before .s3 .given .1))
-
-returns-4 : tie.Need-returns-4
-unfolding onSound
-returns-4 c =
-    c .interrupt .ensures ∙ ap (onSound (c .before .before .before .before .args .self)) (sym (c .before .before .s4 .given .1))
-
-returns-5 : tie.Need-returns-5
-unfolding onSound
-returns-5 c =
-    c .come-back .ensures ∙ ap (onSound (c .before .before .before .before .args .self)) (sym (c .before .before .s5 .given .1))
-
-returns-6 : tie.Need-returns-6
-unfolding onSound
-returns-6 c =
-    c .release .ensures ∙ ap (onSound (c .before .before .before .before .args .self)) (sym (c .before .before .s6 .given .1))
+    let b = c .before .before .before .before .before .before .before .before .before .before .before in
+    whole (b .args .t1) (b .args .s) (b .pre) _ _ _ _ _ (c .before .before .before .before .before .before .before .core-of .ensures) (c .before .before .before .before .before .unit-of .ensures) (c .before .before .before .before .other-of .ensures) (c .before .plan-step .ensures) (c .stepped-by .ensures)
 
 pub step-sound-spec : {M : Type 1} → statement M
 step-sound-spec =
     tie.close
     (tie.spec
-    enum-known-s
-    request-requires
-    enum-known-s-2
-    nest-requires
-    enum-known-s-3
-    poll-requires
-    enum-known-s-4
-    interrupt-requires
-    enum-known-s-5
-    come-back-requires
-    enum-known-s-6
-    release-requires
-    returns
-    returns-2
-    returns-3
-    returns-4
-    returns-5
-    returns-6)
+    core-of-requires
+    mul-c
+    array-copy-out-c
+    unit-of-requires
+    other-of-requires
+    mul-x
+    element-copy-out-x
+    mul-y
+    element-copy-out-y
+    plan-step-requires
+    stepped-by-requires
+    returns)

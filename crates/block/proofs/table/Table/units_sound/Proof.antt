@@ -3,12 +3,13 @@ use borrow.Author.Needs.{needs}
 use Prim.Native.Nat.{ℕ, _+_, _≤_, _-_}
 use mathlib.Core.Bool.{Bool, _&&_}
 use mathlib.Core.Path.{_≡_}
-use Rattle.block.specs.Fold.{every}
-use Rattle.block.specs.Table.{cores, units, coreOf, unitOf, registerOf}
+use Rattle.parts.specs.Fold.{every}
+use Rattle.parts.specs.Parts.{cores, units}
+use Rattle.block.specs.Table.{coreOf, unitOf, registerOf}
 use Rattle.block.specs.Sound.{agrees, oneFlag, unitSound}
 use Rattle.block.specs.declared.table.Table.{Table}
-use Rattle.block.proofs.Folds.{none, finished}
-use Rattle.block.proofs.Loops.{every-more}
+use Rattle.parts.proofs.Folds.{none, finished}
+use Rattle.parts.proofs.Loops.{every-more}
 use Rattle.block.proofs.table.Table.units_sound.Statement.{statement}
 use Rattle.block.proofs.table.Table.units_sound.Tie as tie
 

@@ -1,0 +1,6 @@
+pub mod Answer
+pub mod Fold
+pub mod State
+pub mod Parts
+pub mod Range
+pub mod Places

@@ -1,0 +1,3 @@
+pub mod Winning
+pub mod Deciding
+pub mod Determined

@@ -1,0 +1,3 @@
+pub mod Settle
+pub mod Poll
+pub mod Plan

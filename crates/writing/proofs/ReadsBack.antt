@@ -1,0 +1,235 @@
+-- Reading gives back what was written, in the middle of any other bytes. What is written holds no line end before its last byte and
+-- is at most 14 bytes long, so the reader finds that end, and the bytes up to it are parsed number by number.
+use Prim.Native.Nat.{ℕ, zero, suc, _+_, _-_, _≤_, _<_}
+use mathlib.Core.Bool.{true, false, _&&_}
+use mathlib.Core.List.{List, [], _∷_, _++_, append-assoc, append-nil}
+use mathlib.Core.Path.{_≡_, refl, sym, _∙_, ap}
+use native.Mathlib.Nat.{not-suc-le-zero}
+use native.Mathlib.Omega.{arith}
+use lib.Dec.{leb}
+use lib.ListN.{length, take, drop, length-append}
+use lib.Seq.{drop-append-seam, drop-drop, drop-append-add, take-append-seam}
+use borrow.Author.Tests.{ne-eqb, lt-leb, leb-true}
+use Rattle.ticket.specs.declared.kinds.Ticket.{Ticket}
+use Rattle.parts.proofs.Bools.{and-left, and-right}
+use Rattle.parts.specs.Range.{inRange, perClass}
+use Rattle.parts.specs.Parts.{cores}
+use Rattle.parts.specs.declared.kinds.Counts.{Counts}
+use Rattle.parts.specs.declared.answer.Step.{Step}
+use Rattle.parts.specs.declared.answer.Step.the-variants.{R, N, P, I, C, L}
+use Rattle.lines.specs.Bytes.{tab, end, lineMost, letterT, letterR, letterN, letterP, letterI, letterC, letterL}
+use Rattle.lines.specs.Number.{decimal, numberMost, scan, field}
+use Rattle.lines.specs.Reading.{ending, lineEnd, oneNumber, twoNumbers, parseStep, stepLine, readStep, parseHeader, headerLine, readHeader}
+use Rattle.writing.specs.Writing.{tabbed, lettered, lettered2, stepBytes, headerBytes}
+use Rattle.lines.specs.declared.number.Field.the-variants.{Last, Then}
+use Rattle.lines.specs.declared.reading.Ending.the-variants.{At}
+use Rattle.lines.specs.declared.reading.Parsed.the-variants.{Good}
+use Rattle.lines.specs.declared.reading.StepLine.the-variants.{Line}
+use Rattle.lines.specs.declared.reading.ParsedHeader.the-variants.{Good as GoodHeader}
+use Rattle.lines.specs.declared.reading.HeaderLine.the-variants.{Header}
+use Rattle.lines.proofs.Scanning.{AllDigits, digits-all, digits-most, scan-digits, decimal-length}
+
+-- The line's end
+
+-- no byte is a line end
+abbrev pub Plain : List ℕ → Type 0
+Plain [] = Unit
+Plain (b ∷ bs) = (b ≡ end → ⊥) × Plain bs
+
+pub ending-plain :
+    (f i : ℕ) (xs more : List ℕ) → Plain xs → length xs < f → ending f i (xs ++ (end ∷ more)) ≡ At (i + length xs)
+unfolding ending
+ending-plain zero i xs more p h = absurd (not-suc-le-zero h)
+ending-plain (suc f) i [] more p h = ap At (omega arith)
+ending-plain (suc f) i (x ∷ xs) more p h =
+    let z : i + 1 + length xs ≡ i + suc (length xs) = omega arith in
+    rw (ne-eqb x end (p .0)) (ending-plain f (i + 1) xs more (p .1) (omega arith) ∙ ap At z)
+
+plain-append : (xs ys : List ℕ) → Plain xs → Plain ys → Plain (xs ++ ys)
+plain-append [] ys p q = q
+plain-append (x ∷ xs) ys p q = (p .0, plain-append xs ys (p .1) q)
+
+plain-digits : (xs : List ℕ) → AllDigits xs → Plain xs
+plain-digits [] p = tt
+plain-digits (x ∷ xs) p = ((λ e. omega (arith, p .0)), plain-digits xs (p .2))
+
+plain-tabbed : (n : ℕ) → Plain (tabbed n)
+plain-tabbed n = ((λ e. omega arith), plain-digits (decimal n) (digits-all 10 n))
+
+-- a line, its end with it, in the middle of other bytes: where it ends, and what stands before its end
+module _ (pre post line body : List ℕ) (whole : line ≡ body ++ (end ∷ [])) (plain : Plain body) (few : length body < lineMost) where
+  abbrev around : List ℕ
+  around = pre ++ (line ++ post)
+
+  follow : drop (length pre) around ≡ body ++ (end ∷ post)
+  follow = drop-append-seam pre (line ++ post) ∙ rw whole (append-assoc body (end ∷ []) post)
+
+  one-more : length line ≡ length body + 1
+  one-more = rw whole (length-append body (end ∷ []))
+
+  started : leb (length around) (length pre) ≡ false
+  started =
+      let k = length-append pre (line ++ post) in
+      let l = length-append line post in
+      let m = one-more in
+      lt-leb (length around) (length pre) (omega arith)
+
+  ended : lineEnd around (length pre) ≡ At (length pre + length body)
+  ended = rw follow (ending-plain lineMost (length pre) body post plain few)
+
+  between : take (length pre + length body - length pre) (drop (length pre) around) ≡ body
+  between =
+      let z : length pre + length body - length pre ≡ length body = omega arith in
+      rw (z, follow) (take-append-seam body (end ∷ post))
+
+  past : length pre + length body + 1 ≡ length pre + length line
+  past = omega (arith, one-more)
+
+  step-line : readStep around (length pre) ≡ stepLine (parseStep body) (length pre + length line)
+  step-line = simp (started, ended, between, past)
+
+  header-line : readHeader around (length pre) ≡ headerLine (parseHeader body) (length pre + length line)
+  header-line = simp (started, ended, between, past)
+
+-- The numbers of a line
+
+module _ (s : List ℕ) (i n : ℕ) (most : n ≤ numberMost) where
+  field-last : drop i s ≡ decimal n → field s i ≡ Last n
+  unfolding scan
+  field-last e = rw (e ∙ sym (append-nil (decimal n))) (scan-digits n i [] most)
+
+  field-then :
+      (rest : List ℕ) →
+      drop i s ≡ decimal n ++ (tab ∷ rest) →
+      (field s i ≡ Then n (i + length (decimal n) + 1)) × (drop (i + length (decimal n) + 1) s ≡ rest)
+  unfolding scan
+  field-then rest e =
+      let z : i + length (decimal n) + 1 ≡ i + (length (decimal n) + 1) = omega arith in (
+        rw e (scan-digits n i (tab ∷ rest) most),
+        rw (z, sym (drop-drop (length (decimal n) + 1) i s), e) (drop-append-add (decimal n) (tab ∷ rest) 1),
+      )
+
+-- Step lines
+
+-- the numbers of a step are numbers that a line can hold
+abbrev pub Small : Step → Type 0
+Small (R k u) = (k .0 ≤ numberMost) × (u .0 ≤ numberMost)
+Small (N k u) = (k .0 ≤ numberMost) × (u .0 ≤ numberMost)
+Small (P k) = k .0 ≤ numberMost
+Small (I k) = k .0 ≤ numberMost
+Small (C k) = k .0 ≤ numberMost
+Small (L k) = k .0 ≤ numberMost
+
+module _ (pre post : List ℕ) (letter k : ℕ) (x : Step) (other : letter ≡ end → ⊥) (most : k ≤ numberMost) where
+  one-written :
+      oneNumber letter k ≡ Good x →
+      readStep (pre ++ (lettered letter k ++ post)) (length pre) ≡ Line x (length pre + length (lettered letter k))
+  one-written is =
+      let body : List ℕ = letter ∷ tabbed k in
+      let plain : Plain body = (other, plain-tabbed k) in
+      let few = decimal-length k most in
+      let first = field-last body 2 k most refl in
+      step-line pre post (lettered letter k) body refl plain (omega arith) ∙ simp (first, is)
+
+  two-written :
+      (u : ℕ) →
+      u ≤ numberMost →
+      twoNumbers letter k u ≡ Good x →
+      readStep (pre ++ (lettered2 letter k u ++ post)) (length pre) ≡ Line x (length pre + length (lettered2 letter k u))
+  two-written u most-too is =
+      let body : List ℕ = letter ∷ (tabbed k ++ tabbed u) in
+      let plain : Plain body = (other, plain-append (tabbed k) (tabbed u) (plain-tabbed k) (plain-tabbed u)) in
+      let few = decimal-length k most in
+      let few-too = decimal-length u most-too in
+      let long = length-append (decimal k) (tabbed u) in
+      let first = field-then body 2 k most (decimal u) refl in
+      let second = field-last body (2 + length (decimal k) + 1) u most-too (first .1) in
+      let whole : lettered2 letter k u ≡ body ++ (end ∷ []) = sym (append-assoc (letter ∷ tabbed k) (tabbed u) (end ∷ [])) in
+      step-line pre post (lettered2 letter k u) body whole plain (omega arith) ∙ simp (first .0, second, is)
+
+pub read-step-written :
+    (pre post : List ℕ) (x : Step) →
+    Small x →
+    readStep (pre ++ (stepBytes x ++ post)) (length pre) ≡ Line x (length pre + length (stepBytes x))
+read-step-written pre post (R k u) h = two-written pre post letterR (k .0) (R k u) (λ e. omega arith) (h .0) (u .0) (h .1) refl
+read-step-written pre post (N k u) h = two-written pre post letterN (k .0) (N k u) (λ e. omega arith) (h .0) (u .0) (h .1) refl
+read-step-written pre post (P k) h = one-written pre post letterP (k .0) (P k) (λ e. omega arith) h refl
+read-step-written pre post (I k) h = one-written pre post letterI (k .0) (I k) (λ e. omega arith) h refl
+read-step-written pre post (C k) h = one-written pre post letterC (k .0) (C k) (λ e. omega arith) h refl
+read-step-written pre post (L k) h = one-written pre post letterL (k .0) (L k) (λ e. omega arith) h refl
+
+-- The header
+
+-- counts in range have one digit each
+counts-few : (c : Counts) → inRange c ≡ true → (c .cores ≤ cores) × (c .first ≤ perClass) × (c .second ≤ perClass)
+counts-few c good =
+    let a = leb 1 (c .cores) in
+    let b = leb (c .cores) cores in
+    let d = leb 1 (c .first) in
+    let f = leb (c .first) perClass in
+    let g = leb (c .second) perClass in
+    let four = and-left (a && b && d && f) g good in (
+      leb-true (c .cores) cores (and-right a b (and-left (a && b) d (and-left (a && b && d) f four))),
+      leb-true (c .first) perClass (and-right (a && b && d) f four),
+      leb-true (c .second) perClass (and-right (a && b && d && f) g good),
+    )
+
+one-digit : (m : ℕ) → m ≤ 8 → length (decimal m) ≤ 1
+one-digit m h = digits-most 10 0 m (omega arith)
+
+module _ (c : Counts) (n : Ticket) where
+  -- the header without its end, and what it holds after one number, after two, and after three
+  abbrev thirdly : List ℕ
+  thirdly = tabbed (n .0)
+
+  abbrev secondly : List ℕ
+  secondly = tabbed (c .second) ++ thirdly
+
+  abbrev firstly : List ℕ
+  firstly = tabbed (c .first) ++ secondly
+
+  abbrev header : List ℕ
+  header = letterT ∷ (tabbed (c .cores) ++ firstly)
+
+  header-whole : headerBytes letterT c n ≡ header ++ (end ∷ [])
+  header-whole = simp append-assoc
+
+  header-plain : Plain header
+  header-plain =
+      let after-two = plain-append (tabbed (c .second)) thirdly (plain-tabbed (c .second)) (plain-tabbed (n .0)) in
+      let after-one = plain-append (tabbed (c .first)) secondly (plain-tabbed (c .first)) after-two in
+      ((λ e. omega arith), plain-append (tabbed (c .cores)) firstly (plain-tabbed (c .cores)) after-one)
+
+  module _ (good : inRange c ≡ true) (most : n .0 ≤ numberMost) where
+    header-few : length header < lineMost
+    header-few =
+        let w = counts-few c good in
+        let k = one-digit (c .cores) (w .0) in
+        let l = one-digit (c .first) (w .1) in
+        let m = one-digit (c .second) (w .2) in
+        let o = decimal-length (n .0) most in
+        let p = length-append (decimal (c .cores)) firstly in
+        let q = length-append (decimal (c .first)) secondly in
+        let r = length-append (decimal (c .second)) thirdly in
+        omega arith
+
+    header-parsed : parseHeader header ≡ GoodHeader c n
+    header-parsed =
+        let w = counts-few c good in
+        let i : ℕ = 2 + length (decimal (c .cores)) + 1 in
+        let j : ℕ = i + length (decimal (c .first)) + 1 in
+        let k : ℕ = j + length (decimal (c .second)) + 1 in
+        let one = field-then header 2 (c .cores) (omega arith) (drop 1 firstly) refl in
+        let two = field-then header i (c .first) (omega arith) (drop 1 secondly) (one .1) in
+        let three = field-then header j (c .second) (omega arith) (drop 1 thirdly) (two .1) in
+        let four = field-last header k (n .0) most (three .1) in
+        simp (one .0, two .0, three .0, four)
+
+pub read-header-written :
+    (pre post : List ℕ) (c : Counts) (n : Ticket) →
+    inRange c ≡ true →
+    n .0 ≤ numberMost →
+    readHeader (pre ++ (headerBytes letterT c n ++ post)) (length pre) ≡ Header c n (length pre + length (headerBytes letterT c n))
+read-header-written pre post c n good most =
+    header-line pre post (headerBytes letterT c n) (header c n) (header-whole c n) (header-plain c n) (header-few c n good most)
+    ∙ simp (header-parsed c n good most, good)
