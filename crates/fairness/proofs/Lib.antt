@@ -7,4 +7,3 @@ pub mod Stuck
 pub mod Standing
 pub mod Overtaking
 pub mod Bound
-pub mod Runs

@@ -1,0 +1,1 @@
+// No code: runs computed, so that no claim of fairness is empty, and none could say more.
