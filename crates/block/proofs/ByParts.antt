@@ -25,7 +25,7 @@ use Rattle.refusals.specs.Judged.{unless, absent, onRequest, onNest, onPoll, on
 use Rattle.block.specs.Steps.{entered, freed, awaited, polled, requested, nested, interrupted, cameBack, released, onSound}
 use Rattle.plan.specs.Poll.{served, heir}
 use Rattle.block.specs.Touched.{unsettled, changed, freedTwo}
-use Rattle.parts.specs.Places.{inCores, inUnits, corePlace, unitPlace, otherPlace}
+use Rattle.places.specs.Places.{inCores, inUnits, corePlace, unitPlace, otherPlace}
 use Rattle.block.specs.PutBack.{put, steppedBy}
 use Rattle.plan.specs.Plan.{quietly, done, winner, entering, freeing, polling, decided, planned}
 use Rattle.parts.specs.declared.kinds.Register.{Register}
@@ -46,7 +46,7 @@ use Rattle.plan.specs.declared.planning.Plan.{Plan}
 use Rattle.block.proofs.Parts.{parts}
 use Rattle.block.proofs.Allows.{may-request, may-nest, may-come-back}
 use Rattle.block.proofs.Settling.{changes, frees}
-use Rattle.parts.proofs.Placing.{itself}
+use Rattle.places.proofs.Placing.{itself}
 use Rattle.block.proofs.Putting.{put-same, settles-one, settles-two}
 use Rattle.block.proofs.Standing.{sound-calm}
 use Rattle.block.proofs.Judging.{judged-request}

@@ -13,7 +13,7 @@ use Rattle.parts.specs.Parts.{cores, units, blank, flagged, noUnit, registerIn}
 use Rattle.parts.specs.Answer.{packed}
 use Rattle.plan.specs.Settle.{flags, next, won, Within, registered, givenUnit, settledUnit}
 use Rattle.block.specs.PutBack.{put, flagAt, flagsSet}
-use Rattle.parts.specs.Places.{flagsOf}
+use Rattle.places.specs.Places.{flagsOf}
 use Rattle.plan.specs.Plan.{winner}
 use Rattle.parts.specs.declared.kinds.Register.{Register}
 use Rattle.parts.specs.declared.kinds.LockUnit.{LockUnit}
@@ -21,7 +21,7 @@ use Rattle.plan.specs.declared.settle.Best.{Best}
 use Rattle.plan.specs.declared.settle.Best.the-variants.{Nobody, Core as Won}
 use Rattle.plan.specs.declared.settle.SettledUnit.{SettledUnit}
 use Rattle.block.proofs.Picking.{next-within}
-use Rattle.parts.proofs.Placing.{itself}
+use Rattle.places.proofs.Placing.{itself}
 use Rattle.plan.proofs.Winning.{given-winner}
 
 -- what was just put at a place is changed there

@@ -4,11 +4,11 @@ use Prim.Native.Nat.{ℕ}
 use mathlib.Core.List.{List}
 use lib.ListN.{getD, set}
 use Rattle.parts.specs.Parts.{flagged, noUnit, registerIn}
-use Rattle.parts.specs.Places.{flagsOf}
+use Rattle.places.specs.Places.{flagsOf}
 use Rattle.parts.specs.declared.kinds.Register.{Register}
 use Rattle.parts.specs.declared.kinds.LockUnit.{LockUnit}
-use Rattle.parts.specs.declared.places.Flags as Flags
-use Rattle.parts.specs.declared.places.Flags.{Flags}
+use Rattle.places.specs.declared.place.Flags as Flags
+use Rattle.places.specs.declared.place.Flags.{Flags}
 use Rattle.plan.specs.Settle.{registered}
 use Rattle.plan.specs.declared.planning.Plan.{Plan}
 use Rattle.block.specs.declared.table.Table.{Table}

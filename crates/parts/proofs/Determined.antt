@@ -3,37 +3,16 @@ use mathlib.Core.Path.{sym, _∙_}
 use Rattle.ticket.specs.Determined.{Determines}
 use Rattle.parts.proofs.answer.number.Reads as number
 use Rattle.parts.proofs.range.in_range.Reads as in-range
-use Rattle.parts.proofs.places.core_of.Reads as core-of
-use Rattle.parts.proofs.places.flagged.Reads as flagged
-use Rattle.parts.proofs.places.flags_of.Reads as flags-of
-use Rattle.parts.proofs.places.unit_of.Reads as unit-of
-use Rattle.parts.proofs.places.other_of.Reads as other-of
 use Rattle.parts.proofs.kinds.blank.Reads as blank
 use Rattle.parts.proofs.kinds.idle.Reads as idle
 use Rattle.parts.proofs.state.is_idle.Reads as is-idle
 use Rattle.parts.proofs.state.two_stage.Reads as two-stage
-use Rattle.parts.proofs.places.in_cores.Reads as in-cores
 
 pub number-determined : Determines number.Post
 number-determined κs a x y s t p q = p ∙ sym q
 
 pub in-range-determined : Determines in-range.Post
 in-range-determined κs a x y s t p q = p ∙ sym q
-
-pub core-of-determined : Determines core-of.Post
-core-of-determined κs a x y s t p q = p ∙ sym q
-
-pub flagged-determined : Determines flagged.Post
-flagged-determined κs a x y s t p q = p ∙ sym q
-
-pub flags-of-determined : Determines flags-of.Post
-flags-of-determined κs a x y s t p q = p ∙ sym q
-
-pub unit-of-determined : Determines unit-of.Post
-unit-of-determined κs a x y s t p q = p ∙ sym q
-
-pub other-of-determined : Determines other-of.Post
-other-of-determined κs a x y s t p q = p ∙ sym q
 
 pub blank-determined : Determines blank.Post
 blank-determined κs a x y s t p q = p ∙ sym q
@@ -46,6 +25,3 @@ is-idle-determined κs a x y s t p q = p ∙ sym q
 
 pub two-stage-determined : Determines two-stage.Post
 two-stage-determined κs a x y s t p q = p ∙ sym q
-
-pub in-cores-determined : Determines in-cores.Post
-in-cores-determined κs a x y s t p q = p ∙ sym q

@@ -3,4 +3,3 @@ pub mod Fold
 pub mod State
 pub mod Parts
 pub mod Range
-pub mod Places

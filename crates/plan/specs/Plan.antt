@@ -11,7 +11,7 @@ use Rattle.ticket.specs.declared.kinds.UnitNo.{UnitNo}
 use Rattle.parts.specs.State.{twoStage}
 use Rattle.parts.specs.Parts.{unitNo, blank, standing, idle, core, registerIn}
 use Rattle.parts.specs.Answer.{packed}
-use Rattle.parts.specs.Places.{inCores}
+use Rattle.places.specs.Places.{inCores}
 use Rattle.parts.specs.declared.kinds.Register.{Register}
 use Rattle.parts.specs.declared.kinds.LockUnit.{LockUnit}
 use Rattle.parts.specs.declared.kinds.Core.{Core}
@@ -23,7 +23,7 @@ use Rattle.parts.specs.declared.answer.Grants.{Grants}
 use Rattle.parts.specs.declared.answer.Grants.the-variants.{None}
 use Rattle.parts.specs.declared.answer.Step.{Step}
 use Rattle.parts.specs.declared.answer.Step.the-variants.{R, N, P, I, C, L}
-use Rattle.parts.specs.declared.places.Flags as Flags
+use Rattle.places.specs.declared.place.Flags as Flags
 use Rattle.refusals.specs.Judged.{onRequest, onNest, onPoll, onInterrupt, onComeBack, onRelease}
 use Rattle.refusals.specs.declared.verdict.Verdict.{Verdict}
 use Rattle.refusals.specs.declared.verdict.Verdict.the-variants.{Allowed, Refused}

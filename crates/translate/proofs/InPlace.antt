@@ -9,14 +9,14 @@ use Rattle.block.specs.Sound.{sound}
 use Rattle.block.specs.Steps.{onSound}
 use Rattle.parts.specs.Parts.{cores, units, blank, flagged}
 use Rattle.block.specs.Table.{coreOf}
-use Rattle.parts.specs.Places.{corePlace, unitPlace, otherPlace, flagsOf, Placed}
+use Rattle.places.specs.Places.{corePlace, unitPlace, otherPlace, flagsOf, Placed}
 use Rattle.block.specs.PutBack.{put, flagsSet, unitsBy, steppedBy}
 use Rattle.plan.specs.Plan.{planned}
 use Rattle.parts.specs.declared.answer.Grants.{Grants}
 use Rattle.parts.specs.declared.answer.Step.{Step}
 use Rattle.block.specs.declared.stepped.Stepped.{Stepped}
-use Rattle.parts.specs.declared.places.Flags as Flags
-use Rattle.parts.specs.declared.places.Flags.{Flags}
+use Rattle.places.specs.declared.place.Flags as Flags
+use Rattle.places.specs.declared.place.Flags.{Flags}
 use Rattle.plan.specs.declared.planning.Plan.{Plan}
 use Rattle.parts.specs.declared.kinds.Core.{Core}
 use Rattle.parts.specs.declared.kinds.LockUnit.{LockUnit}
@@ -26,7 +26,7 @@ use Rattle.block.proofs.Access.{Shaped}
 use Rattle.block.proofs.Parts.{parts}
 use Rattle.parts.proofs.Ranging.{cores-few}
 use Rattle.block.proofs.ByParts.{by-parts}
-use Rattle.parts.proofs.Placing.{core-place-within, unit-place-within, other-place-within, flags-placed}
+use Rattle.places.proofs.Placing.{core-place-within, unit-place-within, other-place-within, flags-placed}
 use Rattle.laws.proofs.Keeping.{step-sound, step-shaped}
 use Rattle.translate.specs.Registers.{unitWith, withRegisters}
 use Rattle.translate.proofs.Rows.{setAt, unit-of-row, put-row, flag-row}

@@ -6,13 +6,13 @@ use native.Mathlib.Omega.{arith}
 use Rattle.ticket.specs.Kinds.{ticket}
 use Rattle.ticket.specs.declared.kinds.Ticket.{Ticket}
 use Rattle.parts.specs.Parts.{cores, registerIn}
-use Rattle.parts.specs.Places.{inCores}
+use Rattle.places.specs.Places.{inCores}
 use Rattle.plan.specs.Plan.{quietly, refuse}
 use Rattle.parts.specs.declared.kinds.Core.{Core}
 use Rattle.parts.specs.declared.kinds.LockUnit.{LockUnit}
 use Rattle.parts.specs.declared.answer.Answer.{Answer}
 use Rattle.plan.specs.declared.planning.Plan.{Plan}
-use Rattle.parts.proofs.Placing.{within}
+use Rattle.places.proofs.Placing.{within}
 use Rattle.plan.proofs.planning.refuse.Statement.{statement}
 use Rattle.plan.proofs.planning.refuse.Tie as tie
 

@@ -11,13 +11,13 @@ use lib.ListN.{length, set}
 use borrow.Author.Needs.{needs}
 use borrow.Author.Tests.{not-true, not-false}
 use Rattle.block.specs.PutBack.{flagsSet, steppedBy}
-use Rattle.parts.specs.Places.{Placed}
+use Rattle.places.specs.Places.{Placed}
 use Rattle.block.specs.Sound.{sound}
 use Rattle.block.specs.Steps.{onSound}
 use Rattle.parts.specs.Parts.{cores, units}
 use Rattle.block.specs.Table.{coreOf}
 use Rattle.block.specs.declared.stepped.Stepped.{Stepped}
-use Rattle.parts.specs.declared.places.Flags.the-variants.{One, Two}
+use Rattle.places.specs.declared.place.Flags.the-variants.{One, Two}
 use Rattle.parts.specs.declared.kinds.Register.{Register}
 use Rattle.block.specs.declared.table.Table.{Table}
 use Rattle.block.proofs.Access.{Shaped}

@@ -4,10 +4,10 @@ use Prim.Native.Nat.{ℕ, _<_}
 use mathlib.Core.Path.{_≡_, sym, _∙_, ap, subst}
 use Rattle.parts.specs.Parts.{cores, units}
 use Rattle.block.specs.Table.{withUnits}
-use Rattle.parts.specs.Places.{Placed}
+use Rattle.places.specs.Places.{Placed}
 use Rattle.block.specs.PutBack.{flagAt, flagsSet}
-use Rattle.parts.specs.declared.places.Flags as Flags
-use Rattle.parts.specs.declared.places.Flags.{Flags}
+use Rattle.places.specs.declared.place.Flags as Flags
+use Rattle.places.specs.declared.place.Flags.{Flags}
 use Rattle.block.specs.declared.table.Table.{Table}
 use Rattle.block.proofs.table.Table.granted.Statement.{statement}
 use Rattle.block.proofs.table.Table.granted.Tie as tie

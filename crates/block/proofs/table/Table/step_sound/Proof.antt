@@ -8,7 +8,7 @@ use Rattle.parts.specs.Parts.{cores, units}
 use Rattle.block.specs.Table.{coreOf, unitOf}
 use Rattle.block.specs.Sound.{sound}
 use Rattle.block.specs.Steps.{onSound}
-use Rattle.parts.specs.Places.{corePlace, unitPlace, otherPlace}
+use Rattle.places.specs.Places.{corePlace, unitPlace, otherPlace}
 use Rattle.plan.specs.Plan.{planned}
 use Rattle.block.specs.PutBack.{steppedBy}
 use Rattle.parts.specs.declared.answer.Step.{Step}
@@ -18,7 +18,7 @@ use Rattle.parts.specs.declared.kinds.Core.{Core}
 use Rattle.block.specs.declared.table.Table.{Table}
 use Rattle.block.proofs.Parts.{parts}
 use Rattle.parts.proofs.Ranging.{cores-few}
-use Rattle.parts.proofs.Placing.{core-place-within, unit-place-within, other-place-within}
+use Rattle.places.proofs.Placing.{core-place-within, unit-place-within, other-place-within}
 use Rattle.block.proofs.ByParts.{by-parts}
 use Rattle.block.proofs.table.Table.step_sound.Statement.{statement}
 use Rattle.block.proofs.table.Table.step_sound.Tie as tie

@@ -4,14 +4,14 @@ use Prim.Native.Nat.{ℕ}
 use mathlib.Core.Path.{_≡_, sym, _∙_, ap, subst}
 use lib.ListN.{set}
 use Rattle.block.specs.Table.{withUnits}
-use Rattle.parts.specs.Places.{Placed, flagsOf}
+use Rattle.places.specs.Places.{Placed, flagsOf}
 use Rattle.block.specs.PutBack.{put, flagsSet, steppedBy}
 use Rattle.parts.specs.declared.answer.Grants.{Grants}
 use Rattle.block.specs.declared.stepped.Stepped.{Stepped}
-use Rattle.parts.specs.declared.places.Flags.{Flags}
+use Rattle.places.specs.declared.place.Flags.{Flags}
 use Rattle.plan.specs.declared.planning.Plan.{Plan}
 use Rattle.block.specs.declared.table.Table.{Table}
-use Rattle.parts.proofs.Placing.{flags-placed}
+use Rattle.places.proofs.Placing.{flags-placed}
 use Rattle.block.proofs.table.Table.stepped_by.Statement.{statement}
 use Rattle.block.proofs.table.Table.stepped_by.Tie as tie
 
