@@ -16,6 +16,7 @@ use Rattle.block.specs.Table.{coreOf}
 use Rattle.block.specs.declared.table.Table.{Table}
 use Rattle.block.specs.declared.stepped.Stepped.{Stepped}
 
+-- "Refused steps report ticket 0 and no grants."
 abbrev pub refusal : Table → Answer → Stepped
 refusal t a = record { table = t; answer = a; ticket = ticket 0; grants = None }
 
