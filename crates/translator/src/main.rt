@@ -37,27 +37,42 @@ fn every_turn(input: &mut [u8], output: &mut [u8]) {
     }
 }
 
-// One call, and what follows from why it stopped.
+// One call, whose answers go out; and what follows from why it stopped.
 fn turn(p: Progress, input: &mut [u8], output: &mut [u8]) -> Progress {
     let have = within(p.have, input);
     let run = p.run;
     let s = translate::translate(run, &input[..have], output);
     let why = s.why;
     let stands = s.run;
-    let wrote = within(stands.wrote, output);
+    let sent = send(output, stands.wrote);
     let next = emptied(stands);
-    if !io::write_all(STDOUT_FILENO, &output[..wrote]) {
-        say(b"the output cannot be written\n");
-        return ended(next);
+    if sent {
+        follow(next, have, why, input)
+    } else {
+        ended(next)
     }
+}
+
+// The answers go to standard output. Answers whether they could.
+fn send(output: &[u8], wrote: usize) -> bool {
+    let n = within(wrote, output);
+    let sent = io::write_all(STDOUT_FILENO, &output[..n]);
+    if !sent {
+        say(b"the output cannot be written\n");
+    }
+    sent
+}
+
+// What follows from why a call stopped.
+fn follow(run: Run, have: usize, why: Stop, input: &mut [u8]) -> Progress {
     match why {
-        Stop::Finished => read_on(next, have, why, input),
-        Stop::Unfinished => read_on(next, have, why, input),
-        Stop::NoRoom => going(next, have),
-        Stop::Unsound => stop(next, why),
-        Stop::BadHeader => stop(next, why),
-        Stop::Malformed => stop(next, why),
-        Stop::TooMany => stop(next, why),
+        Stop::Finished => read_on(run, have, why, input),
+        Stop::Unfinished => read_on(run, have, why, input),
+        Stop::NoRoom => going(run, have),
+        Stop::Unsound => stop(run, why),
+        Stop::BadHeader => stop(run, why),
+        Stop::Malformed => stop(run, why),
+        Stop::TooMany => stop(run, why),
     }
 }
 
