@@ -137,7 +137,7 @@ module _ (t : Table) (k : ℕ) where
       ap (λ (j : ℕ). steppedBy t k (u .0) j (freedAt c u v (unitOf t (u .0)) (unitOf t j) n)) (itself units (v .0) h) ∙
       two-put c u v n l h
 
--- A step by its verdict: w judges, f and g give the places, and p is the work of an allowed step
+-- A step by its verdict: w judges, f and g give the places, and p is the work of an allowed step, by the place of its core
 
 far-off : (b : Bool) (v : Verdict) → b ≡ true → unless b NoCore v ≡ Refused NoCore
 far-off true v e = refl
@@ -149,16 +149,16 @@ module _
     (few : t .counts .cores ≤ cores)
     (w : Core → Verdict)
     (f g : Core → ℕ)
-    (p : Core → LockUnit → LockUnit → Plan)
+    (p : ℕ → Core → LockUnit → LockUnit → Plan)
     (d : Stepped)
     (far : (c : Core) → absent (t .counts) k ≡ true → w c ≡ Refused NoCore)
-    (work : k .0 < cores → w (coreOf t (k .0)) ≡ Allowed → steppedBy t (k .0) (f (coreOf t (k .0))) (g (coreOf t (k .0))) (p (coreOf t (k .0)) (unitOf t (f (coreOf t (k .0)))) (unitOf t (g (coreOf t (k .0))))) ≡ d)
+    (work : k .0 < cores → w (coreOf t (k .0)) ≡ Allowed → steppedBy t (k .0) (f (coreOf t (k .0))) (g (coreOf t (k .0))) (p (k .0) (coreOf t (k .0)) (unitOf t (f (coreOf t (k .0)))) (unitOf t (g (coreOf t (k .0))))) ≡ d)
   where
     abbrev here : ℕ
     here = inCores (k .0)
 
     abbrev whole : ℕ → Core → Verdict → Stepped
-    whole i c v = steppedBy t i (f c) (g c) (decided v (k .0) (t .counter) c (unitOf t (f c)) (unitOf t (g c)) (p c (unitOf t (f c)) (unitOf t (g c))))
+    whole i c v = steppedBy t i (f c) (g c) (decided v i (t .counter) c (unitOf t (f c)) (unitOf t (g c)) (p i c (unitOf t (f c)) (unitOf t (g c))))
 
     -- the registers of a refused step are read and put back at the same place
     put-back : (a : Answer) → whole here (coreOf t here) (Refused a) ≡ refusal t a
@@ -317,7 +317,7 @@ by-parts t (R k u) s =
     (λ (b : Core). onRequest (t .counts) (t .cores) (t .counter) k (b .state) u)
     (λ (b : Core). inUnits (u .0))
     (second-place (λ (b : Core). inUnits (u .0)))
-    (λ (b : Core) (x y : LockUnit). entering (k .0) (core (t .counter) (t .counter) u (unitNo 0) Waiting) u x (t .counter) (ticket (after (t .counter .0))))
+    (λ (i : ℕ) (b : Core) (x y : LockUnit). entering i (core (t .counter) (t .counter) u (unitNo 0) Waiting) u x (t .counter) (ticket (after (t .counter .0))))
     (requested t (k .0) u)
     (λ b e. far-off _ _ e)
     (λ h e.
@@ -329,7 +329,7 @@ by-parts t (N k u) s =
     (λ (b : Core). onNest (t .counts) k (b .state) (b .first) u)
     (λ (b : Core). inUnits (u .0))
     (second-place (λ (b : Core). inUnits (u .0)))
-    (λ (b : Core) (x y : LockUnit). entering (k .0) (core (b .own) (b .own) (b .first) u WaitingSecond) u x (b .own) (t .counter))
+    (λ (i : ℕ) (b : Core) (x y : LockUnit). entering i (core (b .own) (b .own) (b .first) u WaitingSecond) u x (b .own) (t .counter))
     (nested t (k .0) u)
     (λ b e. far-off _ _ e)
     (λ h e. enter t k s u (coreOf t (k .0) .own) (t .counter) _ (ap twoStage (may-nest t k u e .state)) (nest-in t k s u e .1))
@@ -338,7 +338,7 @@ by-parts t (P k) s =
     (λ (b : Core). onPoll (t .counts) k (b .state))
     first-place
     (second-place first-place)
-    (λ (b : Core) (x y : LockUnit). polling (k .0) b (t .counter) x y)
+    (λ (i : ℕ) (b : Core) (x y : LockUnit). polling i b (t .counter) x y)
     (polled t (k .0))
     (λ b e. far-off _ _ e)
     (λ h e. polls t k s h (poll-in t k s e .1))
@@ -347,7 +347,7 @@ by-parts t (I k) s =
     (λ (b : Core). onInterrupt (t .counts) k (b .state))
     first-place
     (second-place first-place)
-    (λ (b : Core) (x y : LockUnit). done (away b) blank (b .own) (t .counter) (freeing (k .0) b x y))
+    (λ (i : ℕ) (b : Core) (x y : LockUnit). done (away b) blank (b .own) (t .counter) (freeing i b x y))
     (interrupted t (k .0))
     (λ b e. far-off _ _ e)
     (λ h e. leaves t k s (away (coreOf t (k .0))) h (interrupt-in t k s e .1))
@@ -356,7 +356,7 @@ by-parts t (C k) s =
     (λ (b : Core). onComeBack (t .counts) k (b .state))
     first-place
     (second-place first-place)
-    (λ (b : Core) (x y : LockUnit). entering (k .0) (core (b .own) (b .own) (b .first) (unitNo 0) Waiting) (b .first) x (b .own) (t .counter))
+    (λ (i : ℕ) (b : Core) (x y : LockUnit). entering i (core (b .own) (b .own) (b .first) (unitNo 0) Waiting) (b .first) x (b .own) (t .counter))
     (cameBack t (k .0))
     (λ b e. far-off _ _ e)
     (λ h e. enter t k s (coreOf t (k .0) .first) (coreOf t (k .0) .own) (t .counter) _ (ap twoStage (may-come-back t k e .1)) (come-back-in t k s e .1))
@@ -365,7 +365,7 @@ by-parts t (L k) s =
     (λ (b : Core). onRelease (t .counts) k (b .state))
     first-place
     (second-place first-place)
-    (λ (b : Core) (x y : LockUnit). done idle blank (b .own) (t .counter) (freeing (k .0) b x y))
+    (λ (i : ℕ) (b : Core) (x y : LockUnit). done idle blank (b .own) (t .counter) (freeing i b x y))
     (released t (k .0))
     (λ b e. far-off _ _ e)
     (λ h e. leaves t k s idle h (release-in t k s e .1))

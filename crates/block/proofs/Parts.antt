@@ -6,6 +6,8 @@ use Rattle.parts.specs.Fold.{every}
 use Rattle.parts.specs.Parts.{cores, units}
 use Rattle.block.specs.Table.{coreOf, unitOf, registerOf}
 use Rattle.parts.specs.Range.{inRange}
+use Rattle.agreement.specs.Agreement.{unitSound}
+use Rattle.soundness.specs.Sound.{coreSound}
 use Rattle.block.specs.Sound as S
 use Rattle.block.specs.Parts.{CoreSound, UnitSound, Sound}
 use Rattle.block.specs.declared.table.Table.{Table}
@@ -14,7 +16,7 @@ use Rattle.parts.proofs.Folds.{every-at, at-every}
 
 module _ (t : Table) where
   core-parts : (k : ℕ) → S.coreSound t k ≡ true → CoreSound t k
-  unfolding S.coreSound
+  unfolding coreSound
   core-parts k e =
       let c = coreOf t k in
       let a = S.within t k in
@@ -36,7 +38,7 @@ module _ (t : Table) where
       }
 
   core-whole : (k : ℕ) → CoreSound t k → S.coreSound t k ≡ true
-  unfolding S.coreSound
+  unfolding coreSound
   core-whole k c =
       and-both
       (and-both
@@ -45,7 +47,7 @@ module _ (t : Table) where
       (c .carries)
 
   unit-parts : (u : ℕ) → S.unitSound t u ≡ true → UnitSound t u
-  unfolding S.unitSound
+  unfolding unitSound
   unit-parts u e =
       let p : ℕ → Bool = λ (k : ℕ). S.agrees (coreOf t k) u (registerOf t u k) in
       record {
@@ -54,7 +56,7 @@ module _ (t : Table) where
       }
 
   unit-whole : (u : ℕ) → UnitSound t u → S.unitSound t u ≡ true
-  unfolding S.unitSound
+  unfolding unitSound
   unit-whole u x = and-both (at-every (λ (k : ℕ). S.agrees (coreOf t k) u (registerOf t u k)) cores (x .agrees)) (x .oneFlag)
 
   pub parts : S.sound t ≡ true → Sound t

@@ -1,6 +1,4 @@
-pub mod Build
 pub mod PutBack
-pub mod Seen
 pub mod Table
 pub mod Verdict
 pub mod Settle

@@ -6,12 +6,12 @@ use crate::table::counts;
 use crate::table::units;
 use crate::text::field;
 use crate::text::head;
+use images::ImageAnswer;
 use parts::CORES;
 use parts::LockUnit;
 use parts::Register;
 use parts::UNITS;
-use ticket::Ticket;
-use words::ImageAnswer;
+use parts::blank;
 ghost use mathlib.Core.Path.{_≡_};
 ghost use lib.ListN.{length};
 
@@ -60,7 +60,7 @@ fn read_words(s: &[u8], ws: &mut [u32]) {
 fn reading(s: &[u8], ws: &mut [u32], out: &mut [u8], wrote: usize) -> usize {
     read_words(s, ws);
     let c = counts(s);
-    let x = words::read_image(c, ws);
+    let x = images::read_image(c, ws);
     let a = x.answer;
     let n = image_number(a);
     let to = head(out, wrote, b"I", n);
@@ -106,14 +106,6 @@ fn register_at(units: [LockUnit; UNITS], cores: usize, i: usize) -> Register {
     x.registers[k]
 }
 
-fn blank() -> Register {
-    Register {
-        ticket: Ticket(0),
-        valid: false,
-        flag: false,
-    }
-}
-
 pub(crate) fn answer_writing(s: &[u8], out: &mut [u8], wrote: usize) -> usize {
     let mut space = room();
     let n = half(s, 7) as usize;
@@ -126,7 +118,7 @@ pub(crate) fn answer_writing(s: &[u8], out: &mut [u8], wrote: usize) -> usize {
 
 // The image written into the words lent.
 fn writing(s: &[u8], ws: &mut [u32], out: &mut [u8], wrote: usize) -> usize {
-    let a = words::write_image(counts(s), units(s, 9), ws);
+    let a = images::write_image(counts(s), units(s, 9), ws);
     let n = image_number(a);
     let to = head(out, wrote, b"O", n);
     if n != 0 {

@@ -21,7 +21,7 @@ use Rattle.parts.specs.State.{isIdle}
 use Rattle.parts.specs.Parts.{cores, unitNo, idle, core}
 use Rattle.block.specs.Table.{coreOf}
 use Rattle.parts.specs.Range.{inRange}
-use Rattle.block.specs.Build.{fresh}
+use Rattle.building.specs.Build.{fresh}
 use Rattle.block.specs.Steps.{step}
 use Rattle.block.specs.Verdict.{old, mayRequest}
 use Rattle.parts.specs.declared.kinds.Core.{Core}

@@ -10,7 +10,7 @@ use Rattle.ticket.specs.declared.kinds.Ticket.{Ticket}
 use Rattle.parts.specs.Fold.{one}
 use Rattle.parts.specs.Answer.{numberOf}
 use Rattle.parts.specs.Range.{inRange}
-use Rattle.block.specs.Build.{fresh}
+use Rattle.building.specs.Build.{fresh}
 use Rattle.block.specs.Steps.{step}
 use Rattle.parts.specs.declared.kinds.Counts.{Counts}
 use Rattle.block.specs.declared.table.Table.{Table}

@@ -14,7 +14,7 @@ use Rattle.parts.specs.State.{isIdle, twoStage}
 use Rattle.parts.specs.Parts.{cores, units, blank, idle, noUnit, registerIn}
 use Rattle.block.specs.Table.{coreOf, unitOf, registerOf}
 use Rattle.parts.specs.Range.{inRange}
-use Rattle.block.specs.Build.{fresh, build}
+use Rattle.building.specs.Build.{fresh, build}
 use Rattle.plan.specs.Settle.{flags}
 use Rattle.block.specs.Settle.{settle}
 use Rattle.block.specs.Sound as S
@@ -32,7 +32,7 @@ use Rattle.parts.specs.declared.answer.Step.the-variants.{R, N, P, I, C, L}
 use Rattle.block.specs.declared.stepped.Stepped.{Stepped}
 use Rattle.refusals.specs.declared.verdict.Verdict.{Verdict}
 use Rattle.refusals.specs.declared.verdict.Verdict.the-variants.{Allowed, Refused}
-use Rattle.block.specs.declared.building.Built.{Built}
+use Rattle.building.specs.declared.building.Built.{Built}
 use Rattle.parts.specs.declared.answer.Answer.the-variants.{Done, OutOfRange}
 use Rattle.parts.proofs.Bools.{or-left, or-right}
 use Rattle.parts.proofs.Folds.{none-some, none-count}

@@ -12,10 +12,12 @@ use Rattle.ticket.specs.Order.{behind, topBit, after}
 use Rattle.ticket.specs.declared.kinds.Ticket.{Ticket}
 use Rattle.parts.specs.Parts.{cores, coreNo, unitNo}
 use Rattle.parts.specs.Range.{inRange, perClass}
-use Rattle.block.specs.Build.{fresh}
+use Rattle.building.specs.Build.{fresh}
 use Rattle.parts.specs.Answer.{numberOf}
 use Rattle.parts.specs.Fold.{upTo}
-use Rattle.block.specs.Sound.{coreSound, unitSound, sound}
+use Rattle.agreement.specs.Agreement.{unitSound}
+use Rattle.soundness.specs.Sound.{coreSound}
+use Rattle.block.specs.Sound.{sound}
 use Rattle.block.specs.Verdict.{mayRequest, answered, noCore, noUnit, stretched, old}
 use Rattle.block.specs.Steps.{requested, onSound, step}
 use Rattle.laws.specs.Shown.{shown}

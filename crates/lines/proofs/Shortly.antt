@@ -10,16 +10,17 @@ use borrow.Author.Tests.{eqb-true, eqb-false, ltb-false, ne-eqb, lt-leb, le-leb,
 use lib.Dec.{eqb, leb, ltb}
 use lib.ListN.{length, getD, take, drop}
 use Rattle.parts.proofs.Bools.{and-left, and-right}
-use Rattle.lines.specs.Bytes.{tab, end, lineMost}
-use Rattle.lines.specs.Number.{numberMost, scan}
+use Rattle.numbers.specs.Bytes.{tab, end}
+use Rattle.lines.specs.Bytes.{lineMost}
+use Rattle.numbers.specs.Number.{numberMost, scan}
 use Rattle.lines.specs.Reading.{ending, lineEnd, oneNumber, twoNumbers, parseStep, stepLine, readStep}
 use Rattle.lines.specs.ShortLine.{digit, shortTwo, shortOne, shortLine}
-use Rattle.lines.specs.declared.number.Field.the-variants.{Last, Then}
+use Rattle.numbers.specs.declared.number.Field.the-variants.{Last, Then}
 use Rattle.lines.specs.declared.reading.Ending.the-variants.{At}
 use Rattle.lines.specs.declared.reading.Parsed.the-variants.{Not}
 use Rattle.lines.specs.declared.reading.Short.{Short}
 use Rattle.lines.specs.declared.reading.Short.the-variants.{One, Two, Other}
-use Rattle.lines.proofs.Turns.{opened}
+use Rattle.numbers.proofs.Turns.{opened}
 
 pub digit-says : (b : ℕ) → digit b ≡ true → (48 ≤ b) × (b ≤ 57)
 digit-says b e = (leb-true 48 b (and-left (leb 48 b) (leb b 57) e), leb-true b 57 (and-right (leb 48 b) (leb b 57) e))

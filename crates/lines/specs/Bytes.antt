@@ -1,18 +1,9 @@
--- "Lines end with byte 10; fields are parted by one tab (byte 9)." "No line is longer than 14 bytes with its end."
+-- "No line is longer than 14 bytes with its end." The letters that open a line.
 use Prim.Native.Nat.{ℕ}
 
-abbrev pub tab : ℕ
-tab = 9
-
-abbrev pub end : ℕ
-end = 10
-
--- the longest script line, and the longest expected line, with their ends
+-- the longest script line, with its end
 abbrev pub lineMost : ℕ
 lineMost = 14
-
-abbrev pub expectedMost : ℕ
-expectedMost = 27
 
 -- the letters T and E, R, N, P, I, C and L
 abbrev pub letterT : ℕ

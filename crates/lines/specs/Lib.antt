@@ -1,4 +1,3 @@
 pub mod Bytes
-pub mod Number
 pub mod Reading
 pub mod ShortLine

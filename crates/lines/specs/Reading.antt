@@ -1,30 +1,24 @@
 -- "A reader goes over the lent script bytes and knows its place. It gives 21 if the next 14 bytes hold no line end, or the bytes up to
--- it aren't a step line; 22 if fewer than 14 bytes remain and none is a line end. After the header, nothing left means finished; before
--- it, nothing left is 22. A place past the end of the script counts as its end. Header order: 22, 20."
+-- it aren't a step line; 22 if fewer than 14 bytes remain and none is a line end. After the header, nothing left means finished." "A
+-- place past the end of the script counts as its end."
 use Prim.Native.Nat.{ℕ, zero, suc, _+_, _-_}
-use mathlib.Core.Bool.{cond, _&&_}
+use mathlib.Core.Bool.{cond}
 use mathlib.Core.List.{List, [], _∷_}
 use lib.Dec.{eqb, leb}
 use lib.ListN.{length, getD, take, drop}
-use Rattle.ticket.specs.Kinds.{ticket}
 use Rattle.parts.specs.Parts.{coreNo, unitNo}
-use Rattle.parts.specs.Range.{inRange}
-use Rattle.parts.specs.declared.kinds.Counts.{Counts}
 use Rattle.parts.specs.declared.answer.Step.the-variants.{R, N, P, I, C, L}
-use Rattle.lines.specs.Bytes.{tab, end, lineMost, letterT, letterR, letterN, letterP, letterI, letterC, letterL}
-use Rattle.lines.specs.Number.{field}
-use Rattle.lines.specs.declared.number.Field.{Field}
-use Rattle.lines.specs.declared.number.Field.the-variants.{Bad, Last, Then}
+use Rattle.numbers.specs.Bytes.{tab, end}
+use Rattle.lines.specs.Bytes.{lineMost, letterR, letterN, letterP, letterI, letterC, letterL}
+use Rattle.numbers.specs.Number.{field}
+use Rattle.numbers.specs.declared.number.Field.{Field}
+use Rattle.numbers.specs.declared.number.Field.the-variants.{Bad, Last, Then}
 use Rattle.lines.specs.declared.reading.Ending.{Ending}
 use Rattle.lines.specs.declared.reading.Ending.the-variants.{At, Long, Short}
 use Rattle.lines.specs.declared.reading.Parsed.{Parsed}
 use Rattle.lines.specs.declared.reading.Parsed.the-variants.{Good, Not}
-use Rattle.lines.specs.declared.reading.ParsedHeader.{ParsedHeader}
-use Rattle.lines.specs.declared.reading.ParsedHeader.the-variants.{Good as GoodHeader, Not as NoHeader}
 use Rattle.lines.specs.declared.reading.StepLine.{StepLine}
 use Rattle.lines.specs.declared.reading.StepLine.the-variants.{Line, Finished, Malformed, Unfinished}
-use Rattle.lines.specs.declared.reading.HeaderLine.{HeaderLine}
-use Rattle.lines.specs.declared.reading.HeaderLine.the-variants.{Header, BadHeader, Unfinished as Unended}
 
 -- looks at bytes i, i + 1 and so on, at most f of them, for a line's end
 unfoldable pub ending : ℕ → ℕ → List ℕ → Ending
@@ -80,48 +74,6 @@ stepTo s at Short = Unfinished
 abbrev pub readStep : List ℕ → ℕ → StepLine
 readStep s at = cond (leb (length s) at) Finished (stepTo s at (lineEnd s at))
 
--- The header
-
-abbrev pub counts : ℕ → ℕ → ℕ → Counts
-counts a b c = record { cores = a; first = b; second = c }
-
-abbrev pub withCounter : ℕ → ℕ → ℕ → Field → ParsedHeader
-withCounter a b c Bad = NoHeader
-withCounter a b c (Last n) = GoodHeader (counts a b c) (ticket n)
-withCounter a b c (Then n i) = NoHeader
-
-abbrev pub withSecond : List ℕ → ℕ → ℕ → Field → ParsedHeader
-withSecond s a b Bad = NoHeader
-withSecond s a b (Last c) = NoHeader
-withSecond s a b (Then c i) = withCounter a b c (field s i)
-
-abbrev pub withFirst : List ℕ → ℕ → Field → ParsedHeader
-withFirst s a Bad = NoHeader
-withFirst s a (Last b) = NoHeader
-withFirst s a (Then b i) = withSecond s a b (field s i)
-
-abbrev pub withCores : List ℕ → Field → ParsedHeader
-withCores s Bad = NoHeader
-withCores s (Last a) = NoHeader
-withCores s (Then a i) = withFirst s a (field s i)
-
-abbrev pub parseHeader : List ℕ → ParsedHeader
-parseHeader s = cond (eqb (getD s 0 0) letterT && eqb (getD s 1 0) tab) (withCores s (field s 2)) NoHeader
-
--- 20, or the header with the place after its line
-abbrev pub headerLine : ParsedHeader → ℕ → HeaderLine
-headerLine (GoodHeader c n) next = cond (inRange c) (Header c n next) BadHeader
-headerLine NoHeader next = BadHeader
-
-abbrev pub headerTo : List ℕ → ℕ → Ending → HeaderLine
-headerTo s at (At e) = headerLine (parseHeader (take (e - at) (drop at s))) (e + 1)
-headerTo s at Long = BadHeader
-headerTo s at Short = Unended
-
--- the header at a place
-abbrev pub readHeader : List ℕ → ℕ → HeaderLine
-readHeader s at = cond (leb (length s) at) Unended (headerTo s at (lineEnd s at))
-
 -- Document 01's numbers
 
 abbrev pub stepLineNumber : StepLine → ℕ
@@ -129,8 +81,3 @@ stepLineNumber (Line x next) = 0
 stepLineNumber Finished = 0
 stepLineNumber Malformed = 21
 stepLineNumber Unfinished = 22
-
-abbrev pub headerLineNumber : HeaderLine → ℕ
-headerLineNumber (Header c n next) = 0
-headerLineNumber BadHeader = 20
-headerLineNumber Unended = 22

@@ -4,7 +4,7 @@ use mathlib.Core.Bool.{Bool, cond, _&&_}
 use mathlib.Core.List.{List}
 use lib.Dec.{eqb, leb, ltb}
 use lib.ListN.{length, getD}
-use Rattle.lines.specs.Bytes.{tab, end}
+use Rattle.numbers.specs.Bytes.{tab, end}
 use Rattle.lines.specs.declared.reading.Short.{Short}
 use Rattle.lines.specs.declared.reading.Short.the-variants.{One, Two, Other}
 

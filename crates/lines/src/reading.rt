@@ -1,17 +1,14 @@
-// Reading a header or a step line at a place.
-use crate::number::Field;
-use crate::number::read_field;
-use parts::Counts;
+// Reading a step line at a place.
+use numbers::Field;
+use numbers::read_field;
 use parts::Step;
-use parts::in_range;
 use ticket::CoreNo;
-use ticket::Ticket;
 use ticket::UnitNo;
 ghost use mathlib.Core.Path.{_≡_};
 ghost use Prim.Native.Nat.{_≤_, _<_};
 ghost use lib.ListN.{length};
 ghost use Rattle.lines.specs.ShortLine.{digit, shortLine};
-ghost use Rattle.lines.specs.Reading.{lineEnd, oneNumber, twoNumbers, afterCore, afterLetter, parseStep, stepLine, stepTo, readStep, withCounter, withSecond, withFirst, withCores, parseHeader, headerTo, readHeader};
+ghost use Rattle.lines.specs.Reading.{lineEnd, oneNumber, twoNumbers, afterCore, afterLetter, parseStep, stepLine, stepTo, readStep};
 
 // The longest script line, with its end.
 pub const LINE_MOST: usize = 14;
@@ -29,12 +26,6 @@ pub enum Parsed {
     Not,
 }
 
-// The bytes of a line as a header.
-pub enum ParsedHeader {
-    Good(Counts, Ticket),
-    Not,
-}
-
 // What stands at a place after the header: a step and the place after its line; nothing; a malformed
 // line, 21; a line that is not finished, 22.
 pub enum StepLine {
@@ -44,16 +35,8 @@ pub enum StepLine {
     Unfinished,
 }
 
-// What stands at a place before the header: a good header and the place after its line; something
-// else, 20; a line that is not finished, 22.
-pub enum HeaderLine {
-    Header(Counts, Ticket, usize),
-    BadHeader,
-    Unfinished,
-}
-
 // The end of the line that starts at a place.
-fn line_end(s: &[u8], at: usize) -> Ending
+pub fn line_end(s: &[u8], at: usize) -> Ending
     ensures { λ r. ⌜ r ≡ lineEnd (now (s .entry)) at ⌝ }
 {
     let mut i = at;
@@ -221,100 +204,4 @@ fn step_at(s: &[u8], at: usize, e: usize) -> StepLine
     ensures { λ r. ⌜ r ≡ stepTo (now (s .entry)) at (Ending.At e) ⌝ }
 {
     found(parse_step(&s[at..e]), e + 1)
-}
-
-// The last of a header's numbers: f is its field.
-fn with_counter(a: u16, b: u16, c: u16, f: Field) -> ParsedHeader
-    ensures { λ r. ⌜ r ≡ withCounter a b c f ⌝ }
-{
-    match f {
-        Field::Bad => ParsedHeader::Not,
-        Field::Last(n) => {
-            let counts = Counts {
-                cores: a,
-                first: b,
-                second: c,
-            };
-            ParsedHeader::Good(counts, Ticket(n))
-        }
-        Field::Then(_, _) => ParsedHeader::Not,
-    }
-}
-
-// The third: f is its field.
-fn with_second(s: &[u8], a: u16, b: u16, f: Field) -> ParsedHeader
-    ensures { λ r. ⌜ r ≡ withSecond (now (s .entry)) a b f ⌝ }
-{
-    match f {
-        Field::Bad => ParsedHeader::Not,
-        Field::Last(_) => ParsedHeader::Not,
-        Field::Then(c, i) => with_counter(a, b, c, read_field(s, i)),
-    }
-}
-
-// The second: f is its field.
-fn with_first(s: &[u8], a: u16, f: Field) -> ParsedHeader
-    ensures { λ r. ⌜ r ≡ withFirst (now (s .entry)) a f ⌝ }
-{
-    match f {
-        Field::Bad => ParsedHeader::Not,
-        Field::Last(_) => ParsedHeader::Not,
-        Field::Then(b, i) => with_second(s, a, b, read_field(s, i)),
-    }
-}
-
-// The first: f is its field.
-fn with_cores(s: &[u8], f: Field) -> ParsedHeader
-    ensures { λ r. ⌜ r ≡ withCores (now (s .entry)) f ⌝ }
-{
-    match f {
-        Field::Bad => ParsedHeader::Not,
-        Field::Last(_) => ParsedHeader::Not,
-        Field::Then(a, i) => with_first(s, a, read_field(s, i)),
-    }
-}
-
-// The bytes of a line, without its end, as a header.
-fn parse_header(s: &[u8]) -> ParsedHeader
-    ensures { λ r. ⌜ r ≡ parseHeader (now (s .entry)) ⌝ }
-{
-    if s.len() < 2 {
-        return ParsedHeader::Not;
-    }
-    if (s[0] == b'T') & (s[1] == 9) {
-        with_cores(s, read_field(s, 2))
-    } else {
-        ParsedHeader::Not
-    }
-}
-
-// The header from a place to its end, e.
-fn header_at(s: &[u8], at: usize, e: usize) -> HeaderLine
-    requires { ⌜ (at ≤ e) × (e < length (now s)) ⌝ }
-    ensures { λ r. ⌜ r ≡ headerTo (now (s .entry)) at (Ending.At e) ⌝ }
-{
-    match parse_header(&s[at..e]) {
-        ParsedHeader::Good(c, n) => {
-            if in_range(c) {
-                HeaderLine::Header(c, n, e + 1)
-            } else {
-                HeaderLine::BadHeader
-            }
-        }
-        ParsedHeader::Not => HeaderLine::BadHeader,
-    }
-}
-
-// The header at a place.
-pub fn header_line_at(s: &[u8], at: usize) -> HeaderLine
-    ensures { λ r. ⌜ r ≡ readHeader (now (s .entry)) at ⌝ }
-{
-    if s.len() <= at {
-        return HeaderLine::Unfinished;
-    }
-    match line_end(s, at) {
-        Ending::At(e) => header_at(s, at, e),
-        Ending::Long => HeaderLine::BadHeader,
-        Ending::Short => HeaderLine::Unfinished,
-    }
 }

@@ -6,7 +6,6 @@ use Rattle.places.proofs.place.flagged.Reads as flagged
 use Rattle.places.proofs.place.flags_of.Reads as flags-of
 use Rattle.places.proofs.place.unit_of.Reads as unit-of
 use Rattle.places.proofs.place.other_of.Reads as other-of
-use Rattle.places.proofs.place.in_cores.Reads as in-cores
 
 pub core-of-determined : Determines core-of.Post
 core-of-determined κs a x y s t p q = p ∙ sym q
@@ -22,6 +21,3 @@ unit-of-determined κs a x y s t p q = p ∙ sym q
 
 pub other-of-determined : Determines other-of.Post
 other-of-determined κs a x y s t p q = p ∙ sym q
-
-pub in-cores-determined : Determines in-cores.Post
-in-cores-determined κs a x y s t p q = p ∙ sym q

@@ -33,7 +33,7 @@ fn whose(s: Step) -> u16
 }
 
 // The place of a core; past the array, 0.
-pub fn in_cores(k: u16) -> usize
+fn in_cores(k: u16) -> usize
     ensures { λ r. ⌜ r ≡ inCores k ⌝ }
 {
     let i = k as usize;

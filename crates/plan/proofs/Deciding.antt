@@ -1,22 +1,20 @@
 -- A step's plan, from what its calls give: the verdict decides, and the parts are those of the definitions.
-use Prim.Native.Nat.{ℕ, _≤_, _<_}
+use Prim.Native.Nat.{ℕ, _<_}
 use mathlib.Core.Bool.{Bool, true, false}
 use mathlib.Core.List.{List, _++_}
-use mathlib.Core.Path.{_≡_, refl, sym, _∙_, ap}
-use native.Mathlib.Omega.{arith}
-use borrow.Author.Tests.{leb-false}
+use mathlib.Core.Path.{_≡_, refl, sym, _∙_, ap, subst}
 use Rattle.ticket.specs.Issue.{issue}
-use Rattle.ticket.specs.declared.kinds.CoreNo.{CoreNo}
 use Rattle.ticket.specs.declared.kinds.Ticket.{Ticket}
 use Rattle.ticket.specs.declared.kinds.UnitNo.{UnitNo}
 use Rattle.ticket.specs.declared.issue.Issued.{Issued}
 use Rattle.parts.specs.State.{twoStage}
 use Rattle.parts.specs.Parts.{cores, unitNo, blank, standing, core, registerIn}
 use Rattle.parts.specs.Answer.{packed}
+use Rattle.places.specs.Places.{corePlace}
+use Rattle.refusals.specs.Judged.{judged}
 use Rattle.plan.specs.Settle.{next, won}
 use Rattle.plan.specs.Poll.{served, heir}
-use Rattle.refusals.specs.Judged.{unless, absent}
-use Rattle.plan.specs.Plan.{quietly, refuse, done, winner, entering, freeing, polling, decided, planned}
+use Rattle.plan.specs.Plan.{quietly, refuse, done, winner, entering, freeing, polling, decided, allowed, planned}
 use Rattle.parts.specs.declared.kinds.Register.{Register}
 use Rattle.parts.specs.declared.kinds.LockUnit.{LockUnit}
 use Rattle.parts.specs.declared.kinds.Core.{Core}
@@ -24,34 +22,52 @@ use Rattle.parts.specs.declared.kinds.Counts.{Counts}
 use Rattle.parts.specs.declared.kinds.State.the-variants.{Waiting}
 use Rattle.plan.specs.declared.settle.Best.{Best}
 use Rattle.parts.specs.declared.answer.Answer.{Answer}
-use Rattle.parts.specs.declared.answer.Answer.the-variants.{Granted, NotYet, NoCore}
+use Rattle.parts.specs.declared.answer.Answer.the-variants.{Granted, NotYet}
 use Rattle.parts.specs.declared.answer.Grants.{Grants}
 use Rattle.parts.specs.declared.answer.Step.{Step}
 use Rattle.refusals.specs.declared.verdict.Verdict.{Verdict}
 use Rattle.refusals.specs.declared.verdict.Verdict.the-variants.{Allowed, Refused}
 use Rattle.plan.specs.declared.planning.Plan.{Plan}
-use Rattle.refusals.proofs.Refusals.{unless-not}
 use Rattle.parts.proofs.Bools.{chosen, other}
+use Rattle.places.proofs.Placing.{core-place-within}
 
--- the verdict
-pub known-core : (n : Counts) (k : CoreNo) (v w : Verdict) → n .cores ≤ cores → v ≡ unless (absent n k) NoCore w → v ≡ Allowed → k .0 < cores
-known-core n k v w few judged told =
-    let h = leb-false (n .cores) (k .0) (unless-not (absent n k) NoCore w (sym judged ∙ told) .0) in
-    omega (arith, h, few)
+-- the place of the step's core is one of the array
+pub in-cores : (s : Step) (k : ℕ) → k ≡ corePlace s → k < cores
+in-cores s k at = subst (λ (j : ℕ). j < cores) (sym at) (core-place-within s)
 
-module _ (v w : Verdict) (k : ℕ) (m : Ticket) (c : Core) (x y : LockUnit) (p r : Plan) where
-  pub refuses-plan : (a : Answer) → v ≡ w → v ≡ Refused a → r ≡ refuse a k m c x y → r ≡ decided w k m c x y p
-  refuses-plan a judged told e = e ∙ ap (λ (z : Verdict). decided z k m c x y p) (sym told ∙ judged)
+-- the verdict decides: k is the place, and v the verdict, as the calls give them
+module _
+    (s : Step)
+    (n : Counts)
+    (m : Ticket)
+    (cs : List Core)
+    (c : Core)
+    (x y : LockUnit)
+    (k : ℕ)
+    (v : Verdict)
+    (p : Plan)
+    (at : k ≡ corePlace s)
+    (says : v ≡ judged s n m cs c)
+  where
+    abbrev by : ℕ → Verdict → Plan
+    by j z = decided z j m c x y (allowed s j m c x y)
 
-  pub allows-plan : v ≡ w → v ≡ Allowed → r ≡ p → r ≡ decided w k m c x y p
-  allows-plan judged told e = e ∙ ap (λ (z : Verdict). decided z k m c x y p) (sym told ∙ judged)
+    as-planned : by k v ≡ planned s n m cs c x y
+    unfolding planned
+    as-planned = ap (λ (j : ℕ). by j v) at ∙ ap (by (corePlace s)) says
+
+    pub refuses-plan : (a : Answer) → v ≡ Refused a → p ≡ refuse a k m c x y → p ≡ planned s n m cs c x y
+    refuses-plan a told e = e ∙ ap (by k) (sym told) ∙ as-planned
+
+    pub allows-plan : v ≡ Allowed → p ≡ allowed s k m c x y → p ≡ planned s n m cs c x y
+    allows-plan told e = e ∙ ap (by k) (sym told) ∙ as-planned
 
 pub by-letter :
-    (s s' : Step) (n : Counts) (m : Ticket) (cs : List Core) (c : Core) (x y : LockUnit) (r : Plan) →
+    (s s' : Step) (k : ℕ) (m : Ticket) (c : Core) (x y : LockUnit) (r : Plan) →
     s ≡ s' →
-    r ≡ planned s' n m cs c x y →
-    r ≡ planned s n m cs c x y
-by-letter s s' n m cs c x y r e is = is ∙ ap (λ (z : Step). planned z n m cs c x y) (sym e)
+    r ≡ allowed s' k m c x y →
+    r ≡ allowed s k m c x y
+by-letter s s' k m c x y r e is = is ∙ ap (λ (z : Step). allowed z k m c x y) (sym e)
 
 -- entering, as the register, the winner and the grants were made
 pub enters-plan :

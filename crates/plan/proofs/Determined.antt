@@ -1,4 +1,4 @@
--- Each contract of this crate's entries and of its seams determines its answer: it is an equation with a definition.
+-- The contract of this crate's seam determines its answer: it is an equation with a definition.
 use mathlib.Core.Path.{sym, _∙_}
 use Rattle.ticket.specs.Determined.{Determines}
 use Rattle.plan.proofs.planning.plan_step.Reads as plan-step

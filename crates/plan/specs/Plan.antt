@@ -5,13 +5,12 @@ use mathlib.Core.Bool.{cond}
 use mathlib.Core.List.{List, _++_}
 use Rattle.ticket.specs.Kinds.{ticket}
 use Rattle.ticket.specs.Order.{after}
-use Rattle.ticket.specs.declared.kinds.CoreNo.{CoreNo}
 use Rattle.ticket.specs.declared.kinds.Ticket.{Ticket}
 use Rattle.ticket.specs.declared.kinds.UnitNo.{UnitNo}
 use Rattle.parts.specs.State.{twoStage}
 use Rattle.parts.specs.Parts.{unitNo, blank, standing, idle, core, registerIn}
 use Rattle.parts.specs.Answer.{packed}
-use Rattle.places.specs.Places.{inCores}
+use Rattle.places.specs.Places.{corePlace}
 use Rattle.parts.specs.declared.kinds.Register.{Register}
 use Rattle.parts.specs.declared.kinds.LockUnit.{LockUnit}
 use Rattle.parts.specs.declared.kinds.Core.{Core}
@@ -23,8 +22,7 @@ use Rattle.parts.specs.declared.answer.Grants.{Grants}
 use Rattle.parts.specs.declared.answer.Grants.the-variants.{None}
 use Rattle.parts.specs.declared.answer.Step.{Step}
 use Rattle.parts.specs.declared.answer.Step.the-variants.{R, N, P, I, C, L}
-use Rattle.places.specs.declared.place.Flags as Flags
-use Rattle.refusals.specs.Judged.{onRequest, onNest, onPoll, onInterrupt, onComeBack, onRelease}
+use Rattle.refusals.specs.Judged.{judged}
 use Rattle.refusals.specs.declared.verdict.Verdict.{Verdict}
 use Rattle.refusals.specs.declared.verdict.Verdict.the-variants.{Allowed, Refused}
 use Rattle.plan.specs.Settle.{next, won, registered, settledUnit}
@@ -38,7 +36,7 @@ quietly a n m c p q = record { first = p; second = q; core = c; counter = m; tic
 
 -- a refused step puts back what it read
 abbrev pub refuse : Answer → ℕ → Ticket → Core → LockUnit → LockUnit → Plan
-refuse a k m c x y = quietly a (ticket 0) m c (registerIn x (inCores k)) (registerIn y (inCores k))
+refuse a k m c x y = quietly a (ticket 0) m c (registerIn x k) (registerIn y k)
 
 -- the step is done: its core becomes c, with the register r; the ticket reported is n, the counter m
 abbrev pub done : Core → Register → Ticket → Ticket → Grants → Plan
@@ -69,43 +67,35 @@ polling k c m x y =
     (quietly NotYet n m (core (c .own) n (c .first) (c .second) (c .state)) (registerIn x k) (standing n))
     (quietly NotYet (c .carried) m c (registerIn x k) (registerIn y k)))
 
+-- each allowed step: k is the place of its core, m the counter, c the core, x and y the units at its places
+abbrev pub requestPlan : ℕ → UnitNo → Ticket → LockUnit → Plan
+requestPlan k u m x = entering k (core m m u (unitNo 0) Waiting) u x m (ticket (after (m .0)))
+
+abbrev pub nestPlan : ℕ → UnitNo → Ticket → Core → LockUnit → Plan
+nestPlan k u m c x = entering k (core (c .own) (c .own) (c .first) u WaitingSecond) u x (c .own) m
+
+abbrev pub interruptPlan : ℕ → Ticket → Core → LockUnit → LockUnit → Plan
+interruptPlan k m c x y = done (core (c .own) (c .own) (c .first) (unitNo 0) Away) blank (c .own) m (freeing k c x y)
+
+abbrev pub comeBackPlan : ℕ → Ticket → Core → LockUnit → Plan
+comeBackPlan k m c x = entering k (core (c .own) (c .own) (c .first) (unitNo 0) Waiting) (c .first) x (c .own) m
+
+abbrev pub releasePlan : ℕ → Ticket → Core → LockUnit → LockUnit → Plan
+releasePlan k m c x y = done idle blank (c .own) m (freeing k c x y)
+
+abbrev pub allowed : Step → ℕ → Ticket → Core → LockUnit → LockUnit → Plan
+allowed (R j u) k m c x y = requestPlan k u m x
+allowed (N j u) k m c x y = nestPlan k u m c x
+allowed (P j) k m c x y = polling k c m x y
+allowed (I j) k m c x y = interruptPlan k m c x y
+allowed (C j) k m c x y = comeBackPlan k m c x
+allowed (L j) k m c x y = releasePlan k m c x y
+
 -- an allowed step does its work
 abbrev pub decided : Verdict → ℕ → Ticket → Core → LockUnit → LockUnit → Plan → Plan
 decided Allowed k m c x y p = p
 decided (Refused a) k m c x y p = refuse a k m c x y
 
--- each step: n are the counts, m the counter, c the core that it names, x and y the units at its places
-abbrev pub requestPlan : CoreNo → UnitNo → Counts → Ticket → List Core → Core → LockUnit → LockUnit → Plan
-requestPlan k u n m cs c x y =
-    decided (onRequest n cs m k (c .state) u) (k .0) m c x y
-    (entering (k .0) (core m m u (unitNo 0) Waiting) u x m (ticket (after (m .0))))
-
-abbrev pub nestPlan : CoreNo → UnitNo → Counts → Ticket → Core → LockUnit → LockUnit → Plan
-nestPlan k u n m c x y =
-    decided (onNest n k (c .state) (c .first) u) (k .0) m c x y
-    (entering (k .0) (core (c .own) (c .own) (c .first) u WaitingSecond) u x (c .own) m)
-
-abbrev pub pollPlan : CoreNo → Counts → Ticket → Core → LockUnit → LockUnit → Plan
-pollPlan k n m c x y = decided (onPoll n k (c .state)) (k .0) m c x y (polling (k .0) c m x y)
-
-abbrev pub interruptPlan : CoreNo → Counts → Ticket → Core → LockUnit → LockUnit → Plan
-interruptPlan k n m c x y =
-    decided (onInterrupt n k (c .state)) (k .0) m c x y
-    (done (core (c .own) (c .own) (c .first) (unitNo 0) Away) blank (c .own) m (freeing (k .0) c x y))
-
-abbrev pub comeBackPlan : CoreNo → Counts → Ticket → Core → LockUnit → LockUnit → Plan
-comeBackPlan k n m c x y =
-    decided (onComeBack n k (c .state)) (k .0) m c x y
-    (entering (k .0) (core (c .own) (c .own) (c .first) (unitNo 0) Waiting) (c .first) x (c .own) m)
-
-abbrev pub releasePlan : CoreNo → Counts → Ticket → Core → LockUnit → LockUnit → Plan
-releasePlan k n m c x y = decided (onRelease n k (c .state)) (k .0) m c x y (done idle blank (c .own) m (freeing (k .0) c x y))
-
--- the step: cs are the cores
+-- the step: n are the counts, cs the cores
 unfoldable pub planned : Step → Counts → Ticket → List Core → Core → LockUnit → LockUnit → Plan
-planned (R k u) n m cs c x y = requestPlan k u n m cs c x y
-planned (N k u) n m cs c x y = nestPlan k u n m c x y
-planned (P k) n m cs c x y = pollPlan k n m c x y
-planned (I k) n m cs c x y = interruptPlan k n m c x y
-planned (C k) n m cs c x y = comeBackPlan k n m c x y
-planned (L k) n m cs c x y = releasePlan k n m c x y
+planned s n m cs c x y = decided (judged s n m cs c) (corePlace s) m c x y (allowed s (corePlace s) m c x y)

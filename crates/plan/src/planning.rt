@@ -23,14 +23,9 @@ use parts::Step;
 use parts::blank;
 use parts::idle;
 use parts::two_stage;
-use places::in_cores;
+use places::core_of;
 use refusals::Verdict;
-use refusals::may_come_back;
-use refusals::may_interrupt;
-use refusals::may_nest;
-use refusals::may_poll;
-use refusals::may_release;
-use refusals::may_request;
+use refusals::judge;
 use ticket::CoreNo;
 use ticket::Ticket;
 use ticket::UnitNo;
@@ -38,7 +33,7 @@ use ticket::take;
 ghost use mathlib.Core.Path.{_≡_};
 ghost use Prim.Native.Nat.{_≤_, _<_};
 ghost use Rattle.parts.specs.Parts.{cores, registerIn};
-ghost use Rattle.plan.specs.Plan.{planned, quietly, refuse, done, winner, entering, freeing, polling, requestPlan, nestPlan, pollPlan, interruptPlan, comeBackPlan, releasePlan};
+ghost use Rattle.plan.specs.Plan.{planned, quietly, refuse, done, winner, entering, freeing, polling, requestPlan, nestPlan, interruptPlan, comeBackPlan, releasePlan, allowed};
 ghost use Rattle.plan.specs.Settle.{registered};
 
 // What becomes of the registers of a step's core at its two places, of the core and of the counter; and
@@ -67,13 +62,10 @@ pub fn plan_step(
     requires { ⌜ counts .cores ≤ cores ⌝ }
     ensures { λ r. ⌜ r ≡ planned s counts counter all c x y ⌝ }
 {
-    match s {
-        Step::R(k, u) => plan_request(k, u, counts, counter, all, c, x, y),
-        Step::N(k, u) => plan_nest(k, u, counts, counter, c, x, y),
-        Step::P(k) => plan_poll(k, counts, counter, c, x, y),
-        Step::I(k) => plan_interrupt(k, counts, counter, c, x, y),
-        Step::C(k) => plan_come_back(k, counts, counter, c, x, y),
-        Step::L(k) => plan_release(k, counts, counter, c, x, y),
+    let k = core_of(s);
+    match judge(s, counts, counter, all, c) {
+        Verdict::Refused(a) => refuse(a, k, counter, c, x, y),
+        Verdict::Allowed => allowed(s, k, counter, c, x, y),
     }
 }
 
@@ -93,12 +85,12 @@ fn quietly(a: Answer, n: Ticket, counter: Ticket, c: Core, p: Register, q: Regis
 }
 
 // What was read is put back.
-fn refuse(a: Answer, k: CoreNo, counter: Ticket, c: Core, x: LockUnit, y: LockUnit) -> Plan
-    ensures { λ r. ⌜ r ≡ refuse a (k .0) counter c x y ⌝ }
+fn refuse(a: Answer, k: usize, counter: Ticket, c: Core, x: LockUnit, y: LockUnit) -> Plan
+    requires { ⌜ k < cores ⌝ }
+    ensures { λ r. ⌜ r ≡ refuse a k counter c x y ⌝ }
 {
-    let i = in_cores(k.0);
-    let p = x.registers[i];
-    let q = y.registers[i];
+    let p = x.registers[k];
+    let q = y.registers[k];
     quietly(a, Ticket(0), counter, c, p, q)
 }
 
@@ -146,29 +138,27 @@ fn winner(x: LockUnit, k: usize, r: Register) -> Best
 }
 
 // Core k, which becomes c, enters unit u, which is x, with ticket n, and the unit settles.
-fn entering(k: CoreNo, c: Core, u: UnitNo, x: LockUnit, n: Ticket, counter: Ticket) -> Plan
-    requires { ⌜ k .0 < cores ⌝ }
-    ensures { λ p. ⌜ p ≡ entering (k .0) c u x n counter ⌝ }
+fn entering(k: usize, c: Core, u: UnitNo, x: LockUnit, n: Ticket, counter: Ticket) -> Plan
+    requires { ⌜ k < cores ⌝ }
+    ensures { λ p. ⌜ p ≡ entering k c u x n counter ⌝ }
 {
-    let i = k.0 as usize;
     let r = standing(n);
-    let w = winner(x, i, r);
+    let w = winner(x, k, r);
     let grants = one_grant(u, w);
     done(c, r, n, counter, grants)
 }
 
 // The grants when core k, which is c, gives up its registers at x and y, and both settle.
-fn freeing(k: CoreNo, c: Core, x: LockUnit, y: LockUnit) -> Grants
-    requires { ⌜ k .0 < cores ⌝ }
-    ensures { λ g. ⌜ g ≡ freeing (k .0) c x y ⌝ }
+fn freeing(k: usize, c: Core, x: LockUnit, y: LockUnit) -> Grants
+    requires { ⌜ k < cores ⌝ }
+    ensures { λ g. ⌜ g ≡ freeing k c x y ⌝ }
 {
     let s = c.state;
     let first = c.first;
     let second = c.second;
-    let i = k.0 as usize;
-    let w = winner(x, i, blank());
+    let w = winner(x, k, blank());
     if two_stage(s) {
-        let z = winner(y, i, blank());
+        let z = winner(y, k, blank());
         two_grants(first, w, second, z)
     } else {
         one_grant(first, w)
@@ -176,154 +166,92 @@ fn freeing(k: CoreNo, c: Core, x: LockUnit, y: LockUnit) -> Grants
 }
 
 // Core k, which is c, waits at the unit y; at the second stage it holds x.
-fn polling(k: CoreNo, c: Core, counter: Ticket, x: LockUnit, y: LockUnit) -> Plan
-    requires { ⌜ k .0 < cores ⌝ }
-    ensures { λ r. ⌜ r ≡ polling (k .0) c counter x y ⌝ }
+fn polling(k: usize, c: Core, counter: Ticket, x: LockUnit, y: LockUnit) -> Plan
+    requires { ⌜ k < cores ⌝ }
+    ensures { λ r. ⌜ r ≡ polling k c counter x y ⌝ }
 {
     let s = c.state;
     let carried = c.carried;
-    let i = k.0 as usize;
-    let p = x.registers[i];
-    let r = y.registers[i];
+    let p = x.registers[k];
+    let r = y.registers[k];
     if r.flag {
-        let d = holding(c);
-        quietly(Answer::Granted, carried, counter, d, p, r)
-    } else if two_stage(s) {
+        return quietly(Answer::Granted, carried, counter, holding(c), p, r);
+    }
+    if two_stage(s) {
         let n = heir(carried, next(x));
-        let d = carrying(c, n);
-        quietly(Answer::NotYet, n, counter, d, p, standing(n))
-    } else {
-        quietly(Answer::NotYet, carried, counter, c, p, r)
+        return quietly(Answer::NotYet, n, counter, carrying(c, n), p, standing(n));
     }
+    quietly(Answer::NotYet, carried, counter, c, p, r)
 }
 
-fn plan_request(
-    k: CoreNo,
-    u: UnitNo,
-    counts: Counts,
-    counter: Ticket,
-    all: [Core; CORES],
-    c: Core,
-    x: LockUnit,
-    y: LockUnit,
-) -> Plan
-    requires { ⌜ counts .cores ≤ cores ⌝ }
-    ensures { λ r. ⌜ r ≡ requestPlan k u counts counter all c x y ⌝ }
+// R: core k takes the counter as its ticket, enters unit u, which is x, and waits.
+fn request(k: usize, u: UnitNo, counter: Ticket, x: LockUnit) -> Plan
+    requires { ⌜ k < cores ⌝ }
+    ensures { λ r. ⌜ r ≡ requestPlan k u counter x ⌝ }
 {
-    let s = c.state;
-    match may_request(counts, all, counter, k, s, u) {
-        Verdict::Refused(a) => refuse(a, k, counter, c, x, y),
-        Verdict::Allowed => {
-            let issued = take(counter);
-            let n = issued.ticket;
-            let unit = issued.unit;
-            let after = unit.counter;
-            let d = core(n, n, u, UnitNo(0), State::Waiting);
-            entering(k, d, u, x, n, after)
-        }
-    }
+    let issued = take(counter);
+    let n = issued.ticket;
+    let unit = issued.unit;
+    let after = unit.counter;
+    let d = core(n, n, u, UnitNo(0), State::Waiting);
+    entering(k, d, u, x, n, after)
 }
 
-fn plan_nest(
-    k: CoreNo,
-    u: UnitNo,
-    counts: Counts,
-    counter: Ticket,
-    c: Core,
-    x: LockUnit,
-    y: LockUnit,
-) -> Plan
-    requires { ⌜ counts .cores ≤ cores ⌝ }
-    ensures { λ r. ⌜ r ≡ nestPlan k u counts counter c x y ⌝ }
+// N: core k, which is c, enters unit u, which is x, with its own ticket, and waits.
+fn nest(k: usize, u: UnitNo, counter: Ticket, c: Core, x: LockUnit) -> Plan
+    requires { ⌜ k < cores ⌝ }
+    ensures { λ r. ⌜ r ≡ nestPlan k u counter c x ⌝ }
 {
-    let s = c.state;
     let own = c.own;
     let first = c.first;
-    match may_nest(counts, k, s, first, u) {
-        Verdict::Refused(a) => refuse(a, k, counter, c, x, y),
-        Verdict::Allowed => {
-            let d = core(own, own, first, u, State::WaitingSecond);
-            entering(k, d, u, x, own, counter)
-        }
-    }
+    let d = core(own, own, first, u, State::WaitingSecond);
+    entering(k, d, u, x, own, counter)
 }
 
-fn plan_poll(k: CoreNo, counts: Counts, counter: Ticket, c: Core, x: LockUnit, y: LockUnit) -> Plan
-    requires { ⌜ counts .cores ≤ cores ⌝ }
-    ensures { λ r. ⌜ r ≡ pollPlan k counts counter c x y ⌝ }
+// I: core k, which is c, gives up its registers and is away with its own ticket.
+fn interrupt(k: usize, counter: Ticket, c: Core, x: LockUnit, y: LockUnit) -> Plan
+    requires { ⌜ k < cores ⌝ }
+    ensures { λ r. ⌜ r ≡ interruptPlan k counter c x y ⌝ }
 {
-    let s = c.state;
-    match may_poll(counts, k, s) {
-        Verdict::Refused(a) => refuse(a, k, counter, c, x, y),
-        Verdict::Allowed => polling(k, c, counter, x, y),
-    }
-}
-
-fn plan_interrupt(
-    k: CoreNo,
-    counts: Counts,
-    counter: Ticket,
-    c: Core,
-    x: LockUnit,
-    y: LockUnit,
-) -> Plan
-    requires { ⌜ counts .cores ≤ cores ⌝ }
-    ensures { λ r. ⌜ r ≡ interruptPlan k counts counter c x y ⌝ }
-{
-    let s = c.state;
     let own = c.own;
     let first = c.first;
-    match may_interrupt(counts, k, s) {
-        Verdict::Refused(a) => refuse(a, k, counter, c, x, y),
-        Verdict::Allowed => {
-            let d = core(own, own, first, UnitNo(0), State::Away);
-            let grants = freeing(k, c, x, y);
-            done(d, blank(), own, counter, grants)
-        }
-    }
+    let d = core(own, own, first, UnitNo(0), State::Away);
+    let grants = freeing(k, c, x, y);
+    done(d, blank(), own, counter, grants)
 }
 
-fn plan_come_back(
-    k: CoreNo,
-    counts: Counts,
-    counter: Ticket,
-    c: Core,
-    x: LockUnit,
-    y: LockUnit,
-) -> Plan
-    requires { ⌜ counts .cores ≤ cores ⌝ }
-    ensures { λ r. ⌜ r ≡ comeBackPlan k counts counter c x y ⌝ }
+// C: core k, which is c, enters its first unit, which is x, with its own ticket, and waits.
+fn come_back(k: usize, counter: Ticket, c: Core, x: LockUnit) -> Plan
+    requires { ⌜ k < cores ⌝ }
+    ensures { λ r. ⌜ r ≡ comeBackPlan k counter c x ⌝ }
 {
-    let s = c.state;
     let own = c.own;
     let first = c.first;
-    match may_come_back(counts, k, s) {
-        Verdict::Refused(a) => refuse(a, k, counter, c, x, y),
-        Verdict::Allowed => {
-            let d = core(own, own, first, UnitNo(0), State::Waiting);
-            entering(k, d, first, x, own, counter)
-        }
-    }
+    let d = core(own, own, first, UnitNo(0), State::Waiting);
+    entering(k, d, first, x, own, counter)
 }
 
-fn plan_release(
-    k: CoreNo,
-    counts: Counts,
-    counter: Ticket,
-    c: Core,
-    x: LockUnit,
-    y: LockUnit,
-) -> Plan
-    requires { ⌜ counts .cores ≤ cores ⌝ }
-    ensures { λ r. ⌜ r ≡ releasePlan k counts counter c x y ⌝ }
+// L: core k, which is c, gives up its registers and is idle.
+fn release(k: usize, counter: Ticket, c: Core, x: LockUnit, y: LockUnit) -> Plan
+    requires { ⌜ k < cores ⌝ }
+    ensures { λ r. ⌜ r ≡ releasePlan k counter c x y ⌝ }
 {
-    let s = c.state;
-    match may_release(counts, k, s) {
-        Verdict::Refused(a) => refuse(a, k, counter, c, x, y),
-        Verdict::Allowed => {
-            let own = c.own;
-            let grants = freeing(k, c, x, y);
-            done(idle(), blank(), own, counter, grants)
-        }
+    let own = c.own;
+    let grants = freeing(k, c, x, y);
+    done(idle(), blank(), own, counter, grants)
+}
+
+// An allowed step, whose core stands at place k.
+fn allowed(s: Step, k: usize, counter: Ticket, c: Core, x: LockUnit, y: LockUnit) -> Plan
+    requires { ⌜ k < cores ⌝ }
+    ensures { λ r. ⌜ r ≡ allowed s k counter c x y ⌝ }
+{
+    match s {
+        Step::R(_, u) => request(k, u, counter, x),
+        Step::N(_, u) => nest(k, u, counter, c, x),
+        Step::P(_) => polling(k, c, counter, x, y),
+        Step::I(_) => interrupt(k, counter, c, x, y),
+        Step::C(_) => come_back(k, counter, c, x),
+        Step::L(_) => release(k, counter, c, x, y),
     }
 }

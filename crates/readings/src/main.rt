@@ -3,8 +3,8 @@
 // A case is a letter, a length byte, and so many bytes: S, a script after its header; H, a script before
 // it; W, a register word, lowest byte first. The cases and the stored answers are what
 // second/readings.py makes, from document 01 alone.
+use headers::HeaderLine;
 use libc::STDOUT_FILENO;
-use lines::HeaderLine;
 use lines::StepLine;
 use parts::Counts;
 use parts::Register;

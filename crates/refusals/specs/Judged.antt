@@ -18,6 +18,8 @@ use Rattle.parts.specs.declared.kinds.Counts.{Counts}
 use Rattle.parts.specs.declared.kinds.State.{State}
 use Rattle.parts.specs.declared.answer.Answer.{Answer}
 use Rattle.parts.specs.declared.answer.Answer.the-variants.{NoCore, NoUnit, WrongState, WrongClass, Masked, Stretched}
+use Rattle.parts.specs.declared.answer.Step.{Step}
+use Rattle.parts.specs.declared.answer.Step.the-variants.{R, N, P, I, C, L}
 use Rattle.refusals.specs.declared.verdict.Verdict.{Verdict}
 use Rattle.refusals.specs.declared.verdict.Verdict.the-variants.{Allowed, Refused}
 
@@ -58,14 +60,27 @@ onRequest n cs m k s u = asking n k s u (anyAged m cs (n .cores))
 abbrev pub onNest : Counts → CoreNo → State → UnitNo → UnitNo → Verdict
 onNest n k s held u = known n k u (unless (not (holdsOne s)) WrongState (unless (misplaced n held u) WrongClass Allowed))
 
+-- P, C and L, with whether the state is the right one
+abbrev pub inState : Counts → CoreNo → Bool → Verdict
+inState n k right = unless (absent n k) NoCore (unless (not right) WrongState Allowed)
+
 abbrev pub onPoll : Counts → CoreNo → State → Verdict
-onPoll n k s = unless (absent n k) NoCore (unless (not (waits s)) WrongState Allowed)
+onPoll n k s = inState n k (waits s)
 
 abbrev pub onInterrupt : Counts → CoreNo → State → Verdict
 onInterrupt n k s = unless (absent n k) NoCore (unless (holds s) Masked (unless (not (waits s)) WrongState Allowed))
 
 abbrev pub onComeBack : Counts → CoreNo → State → Verdict
-onComeBack n k s = unless (absent n k) NoCore (unless (not (isAway s)) WrongState Allowed)
+onComeBack n k s = inState n k (isAway s)
 
 abbrev pub onRelease : Counts → CoreNo → State → Verdict
-onRelease n k s = unless (absent n k) NoCore (unless (not (holds s)) WrongState Allowed)
+onRelease n k s = inState n k (holds s)
+
+-- the step: n are the counts, m the counter, cs the cores, c the core that it names
+abbrev pub judged : Step → Counts → Ticket → List Core → Core → Verdict
+judged (R k u) n m cs c = onRequest n cs m k (c .state) u
+judged (N k u) n m cs c = onNest n k (c .state) (c .first) u
+judged (P k) n m cs c = onPoll n k (c .state)
+judged (I k) n m cs c = onInterrupt n k (c .state)
+judged (C k) n m cs c = onComeBack n k (c .state)
+judged (L k) n m cs c = onRelease n k (c .state)

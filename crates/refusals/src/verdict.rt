@@ -9,6 +9,7 @@ use parts::CORES;
 use parts::Core;
 use parts::Counts;
 use parts::State;
+use parts::Step;
 use parts::is_idle;
 use ticket::CoreNo;
 use ticket::Ticket;
@@ -18,7 +19,7 @@ use ticket::top_bit;
 ghost use mathlib.Core.Path.{_≡_};
 ghost use Prim.Native.Nat.{_≤_};
 ghost use Rattle.parts.specs.Parts.{cores};
-ghost use Rattle.refusals.specs.Judged.{absent, unplaced, misplaced, aged, anyAged, onRequest, onNest, onPoll, onInterrupt, onComeBack, onRelease};
+ghost use Rattle.refusals.specs.Judged.{absent, unplaced, aged, anyAged, onRequest, onNest, onInterrupt, inState, judged};
 
 pub enum Verdict {
     Allowed,
@@ -38,13 +39,6 @@ fn no_unit(counts: Counts, u: UnitNo) -> bool
 {
     let all = counts.first as u32 + counts.second as u32;
     u.0 as u32 >= all
-}
-
-// 13: the unit is first-class, or the held one is second-class.
-fn wrong_class(counts: Counts, held: UnitNo, u: UnitNo) -> bool
-    ensures { λ r. ⌜ r ≡ misplaced counts held u ⌝ }
-{
-    (u.0 < counts.first) | (held.0 >= counts.first)
 }
 
 // A core's ticket is live and lies half the circle or more behind the counter.
@@ -73,7 +67,7 @@ fn stretched(counts: Counts, all: [Core; CORES], counter: Ticket) -> bool
     false
 }
 
-pub fn may_request(
+fn may_request(
     counts: Counts,
     all: [Core; CORES],
     counter: Ticket,
@@ -99,7 +93,7 @@ pub fn may_request(
     Verdict::Allowed
 }
 
-pub fn may_nest(counts: Counts, k: CoreNo, s: State, held: UnitNo, u: UnitNo) -> Verdict
+fn may_nest(counts: Counts, k: CoreNo, s: State, held: UnitNo, u: UnitNo) -> Verdict
     ensures { λ r. ⌜ r ≡ onNest counts k s held u ⌝ }
 {
     if no_core(counts, k) {
@@ -111,25 +105,14 @@ pub fn may_nest(counts: Counts, k: CoreNo, s: State, held: UnitNo, u: UnitNo) ->
     if !holds_one(s) {
         return Verdict::Refused(Answer::WrongState);
     }
-    if wrong_class(counts, held, u) {
+    // 13: the unit is first-class, or the held one is second-class
+    if (u.0 < counts.first) | (held.0 >= counts.first) {
         return Verdict::Refused(Answer::WrongClass);
     }
     Verdict::Allowed
 }
 
-pub fn may_poll(counts: Counts, k: CoreNo, s: State) -> Verdict
-    ensures { λ r. ⌜ r ≡ onPoll counts k s ⌝ }
-{
-    if no_core(counts, k) {
-        return Verdict::Refused(Answer::NoCore);
-    }
-    if !waits(s) {
-        return Verdict::Refused(Answer::WrongState);
-    }
-    Verdict::Allowed
-}
-
-pub fn may_interrupt(counts: Counts, k: CoreNo, s: State) -> Verdict
+fn may_interrupt(counts: Counts, k: CoreNo, s: State) -> Verdict
     ensures { λ r. ⌜ r ≡ onInterrupt counts k s ⌝ }
 {
     if no_core(counts, k) {
@@ -144,26 +127,32 @@ pub fn may_interrupt(counts: Counts, k: CoreNo, s: State) -> Verdict
     Verdict::Allowed
 }
 
-pub fn may_come_back(counts: Counts, k: CoreNo, s: State) -> Verdict
-    ensures { λ r. ⌜ r ≡ onComeBack counts k s ⌝ }
+// P, C and L: whether the core's state is the right one.
+fn in_state(counts: Counts, k: CoreNo, right: bool) -> Verdict
+    ensures { λ r. ⌜ r ≡ inState counts k right ⌝ }
 {
     if no_core(counts, k) {
         return Verdict::Refused(Answer::NoCore);
     }
-    if !is_away(s) {
+    if !right {
         return Verdict::Refused(Answer::WrongState);
     }
     Verdict::Allowed
 }
 
-pub fn may_release(counts: Counts, k: CoreNo, s: State) -> Verdict
-    ensures { λ r. ⌜ r ≡ onRelease counts k s ⌝ }
+// Seam: whether a step is allowed, of which c is the core that it names.
+pub fn judge(s: Step, counts: Counts, counter: Ticket, all: [Core; CORES], c: Core) -> Verdict
+    requires { ⌜ counts .cores ≤ cores ⌝ }
+    ensures { λ r. ⌜ r ≡ judged s counts counter all c ⌝ }
 {
-    if no_core(counts, k) {
-        return Verdict::Refused(Answer::NoCore);
+    let z = c.state;
+    let held = c.first;
+    match s {
+        Step::R(k, u) => may_request(counts, all, counter, k, z, u),
+        Step::N(k, u) => may_nest(counts, k, z, held, u),
+        Step::P(k) => in_state(counts, k, waits(z)),
+        Step::I(k) => may_interrupt(counts, k, z),
+        Step::C(k) => in_state(counts, k, is_away(z)),
+        Step::L(k) => in_state(counts, k, holds(z)),
     }
-    if !holds(s) {
-        return Verdict::Refused(Answer::WrongState);
-    }
-    Verdict::Allowed
 }

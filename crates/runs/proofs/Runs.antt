@@ -13,7 +13,9 @@ use Rattle.parts.specs.State.{isIdle, stands, holds}
 use Rattle.parts.specs.Parts.{cores, coreNo, unitNo}
 use Rattle.block.specs.Table.{coreOf}
 use Rattle.parts.specs.Answer.{numberOf}
-use Rattle.block.specs.Sound.{coreSound, unitSound, sound}
+use Rattle.agreement.specs.Agreement.{unitSound}
+use Rattle.soundness.specs.Sound.{coreSound}
+use Rattle.block.specs.Sound.{sound}
 use Rattle.block.specs.Steps.{onSound, step}
 use Rattle.parts.specs.declared.kinds.State.{State}
 use Rattle.parts.specs.declared.kinds.State.the-variants.{Idle, Waiting, Holding, WaitingSecond, HoldingBoth, Away}

@@ -2,12 +2,13 @@
 //
 // Each function that takes, makes or hands back a reader is thin, and leaves the work to a function of
 // plain parameters. `read_step` and `read_header` have plain parameters themselves and say nothing of a reader.
-use lines::HeaderLine;
+use headers::HeaderLine;
+use headers::header_line_at;
 use lines::StepLine;
-use lines::header_line_at;
 use lines::step_line_at;
 ghost use mathlib.Core.Path.{_≡_};
-ghost use Rattle.lines.specs.Reading.{readStep, readHeader};
+ghost use Rattle.lines.specs.Reading.{readStep};
+ghost use Rattle.headers.specs.Header.{readHeader};
 ghost use Rattle.script.specs.Script.{opened, bytesFrom, placeAfter, readOn};
 
 // The lent script, and the place where the next line starts.

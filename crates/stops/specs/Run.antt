@@ -3,7 +3,7 @@
 use Prim.Native.Nat.{ℕ}
 use mathlib.Core.Bool.{false}
 use Rattle.ticket.specs.Kinds.{ticket}
-use Rattle.block.specs.Build.{build}
+use Rattle.building.specs.Build.{build}
 use Rattle.stops.specs.declared.run.Run.{Run}
 use Rattle.stops.specs.declared.run.Stop.{Stop}
 use Rattle.stops.specs.declared.run.Stop.the-variants.{Finished, Unsound, BadHeader, Malformed, Unfinished, NoRoom, TooMany}

@@ -1,6 +1,6 @@
 // A run so far, and why a call stopped.
 use block::Table;
-use block::build;
+use building::build;
 use parts::Counts;
 use ticket::Ticket;
 ghost use mathlib.Core.Path.{_≡_};

@@ -1,16 +1,5 @@
 pub mod Held
-pub mod Fuel
 pub mod Rows
 pub mod InPlace
 pub mod Turning
-pub mod Script
-pub mod Pasting
-pub mod Asked
-pub mod Along
-pub mod GoesOn
-pub mod Moved
-pub mod Columns
-pub mod Kept
-pub mod Chains
-pub mod Pieces
 pub mod Determined

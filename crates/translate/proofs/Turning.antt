@@ -13,24 +13,26 @@ use Rattle.ticket.specs.declared.kinds.Ticket.{Ticket}
 use Rattle.block.specs.Sound.{sound}
 use Rattle.block.specs.Steps.{onSound, step}
 use Rattle.parts.specs.Range.{inRange}
-use Rattle.block.specs.Build.{build}
+use Rattle.building.specs.Build.{build}
 use Rattle.parts.specs.declared.answer.Step.{Step}
 use Rattle.block.specs.declared.stepped.Stepped.{Stepped}
-use Rattle.block.specs.declared.building.Built.{Built}
 use Rattle.parts.specs.declared.kinds.Counts.{Counts}
 use Rattle.block.specs.declared.table.Table.{Table}
 use Rattle.lines.specs.Bytes.{letterE}
-use Rattle.lines.specs.Reading.{readStep, readHeader}
-use Rattle.writing.specs.Writing.{headerBytes, expectedBytes, fits, wrote, left, wroteHeader, leftHeader}
-use Rattle.lines.specs.declared.reading.HeaderLine.{HeaderLine}
-use Rattle.lines.specs.declared.reading.HeaderLine.the-variants.{Header, BadHeader as NoHeader, Unfinished as CutHeader}
+use Rattle.lines.specs.Reading.{readStep}
+use Rattle.headers.specs.Header.{readHeader}
+use Rattle.digits.specs.Room.{fits, wrote, left}
+use Rattle.expected.specs.Expected.{expectedBytes}
+use Rattle.writing.specs.Writing.{headerBytes, wroteHeader, leftHeader}
+use Rattle.headers.specs.declared.reading.HeaderLine.{HeaderLine}
+use Rattle.headers.specs.declared.reading.HeaderLine.the-variants.{Header, BadHeader as NoHeader, Unfinished as CutHeader}
 use Rattle.lines.specs.declared.reading.StepLine.{StepLine}
 use Rattle.lines.specs.declared.reading.StepLine.the-variants.{Line, Finished as Nothing, Malformed as NoStep, Unfinished as Cut}
-use Rattle.writing.specs.declared.writer.Written.{Written}
-use Rattle.writing.specs.declared.writer.Written.the-variants.{Next, OutOfRange, NoRoom as Full}
+use Rattle.digits.specs.declared.room.Written.{Written}
+use Rattle.digits.specs.declared.room.Written.the-variants.{Next, OutOfRange, NoRoom as Full}
 use Rattle.stops.specs.Run.{stepsMost}
 use Rattle.stops.specs.Due.{due, judged}
-use Rattle.translate.specs.Call.{Desk, Ended, runAt, stoppedAt, answered, worked, opened, turn, translated, call}
+use Rattle.calls.specs.Call.{Desk, Ended, runAt, stoppedAt, answered, worked, opened, turn, translated, call}
 use Rattle.stops.specs.declared.todo.Todo.{Todo}
 use Rattle.stops.specs.declared.todo.Todo.the-variants.{Work, Stop as Halt}
 use Rattle.stops.specs.declared.run.Run.{Run}
@@ -38,7 +40,7 @@ use Rattle.stops.specs.declared.run.Stop.{Stop}
 use Rattle.stops.specs.declared.run.Stop.the-variants.{NoRoom, Finished, TooMany, BadHeader, Unfinished}
 use Rattle.stops.specs.declared.run.Stopped.{Stopped}
 use Rattle.writing.proofs.AsWritten.{header-read-is-written}
-use Rattle.translate.proofs.Fuel.{on, stop}
+use Rattle.calls.proofs.Fuel.{on, stop}
 
 -- a line that is to be worked was read, in time, for a table that is fit
 pub record Working (s : List ℕ) (place steps : ℕ) (fit : Bool) (x : Step) (next : ℕ) : Type 0 where
@@ -235,14 +237,12 @@ module _ (r : Run) (s out : List ℕ) (unread : r .headed ≡ false) (h : Header
 
       -- after the header: the run on the table that was built
       pub opened-by :
-          (p : ℕ) (b : Built) (q : Run) (e : Stopped) (o' : List ℕ) →
+          (p : ℕ) (q : Run) (e : Stopped) (o' : List ℕ) →
           w ≡ Next p →
-          b ≡ build c n →
-          q ≡ runAt next p (b .table) (r .steps) →
+          q ≡ runAt next p (build c n .table) (r .steps) →
           (e ≡ call q s o .stopped) × (o' ≡ call q s o .out) →
           (e ≡ call r s out .stopped) × (o' ≡ call r s out .out)
-      opened-by p b q e o' put-at built at goes =
-          let desk : q ≡ runAt next p (build c n .table) (r .steps) = at ∙ ap (λ (z : Built). runAt next p (z .table) (r .steps)) built in
+      opened-by p q e o' put-at desk goes =
           let z : call r s out ≡ call q s o =
           on before (record { run = runAt next p (build c n .table) (r .steps); out = o }) s
           (opens (Header c n next) is ∙ written before first next (build c n .table) (r .steps) w o p put holds put-at)

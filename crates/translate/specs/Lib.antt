@@ -1,4 +1,1 @@
-pub mod Call
-pub mod Pieces
-pub mod Columns
 pub mod Registers

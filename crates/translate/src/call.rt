@@ -1,8 +1,10 @@
 // One call: lines are read, worked and answered until one stops the run, which then stands at its start.
 use block::Table;
-use block::build;
-use lines::HeaderLine;
+use building::build;
+use digits::Written;
+use headers::HeaderLine;
 use parts::CORES;
+use parts::Counts;
 use parts::LockUnit;
 use parts::Register;
 use parts::UNITS;
@@ -19,17 +21,18 @@ use stops::Stop;
 use stops::Stopped;
 use stops::Todo;
 use stops::due;
-use writing::Written;
+use ticket::Ticket;
 ghost use mathlib.Core.Path.{_≡_};
 ghost use mathlib.Core.Bool.{true, false};
 ghost use Prim.Native.Nat.{_+_, _≤_};
 ghost use lib.Dec.{leb};
 ghost use lib.ListN.{length};
+ghost use Rattle.building.specs.Build.{build};
 ghost use Rattle.block.specs.Sound.{sound};
 ghost use Rattle.places.specs.Places.{flagsOf};
-ghost use Rattle.writing.specs.Text.{Puts};
-ghost use Rattle.writing.specs.Writing.{expectedBytes};
-ghost use Rattle.translate.specs.Call.{stoppedAt, call};
+ghost use Rattle.digits.specs.Text.{Puts};
+ghost use Rattle.expected.specs.Expected.{expectedBytes};
+ghost use Rattle.calls.specs.Call.{runAt, stoppedAt, call};
 ghost use Rattle.translate.specs.Registers.{unitWith, registersOf, withRegisters};
 
 // The registers of a table's units: a run changes them one by one.
@@ -98,7 +101,7 @@ fn fits(len: usize, at: usize, number: u32, x: Plan) -> bool
     let answer = x.answer;
     let ticket = x.ticket;
     let grants = x.grants;
-    writing::expected_fits(len, at, number, answer, ticket, grants)
+    expected::expected_fits(len, at, number, answer, ticket, grants)
 }
 
 // The line of a planned step, where there is room.
@@ -109,7 +112,7 @@ fn put_line(out: &mut [u8], at: usize, number: u32, x: Plan) -> usize
     let answer = x.answer;
     let ticket = x.ticket;
     let grants = x.grants;
-    writing::put_expected(out, at, number, answer, ticket, grants)
+    expected::put_expected(out, at, number, answer, ticket, grants)
 }
 
 // The step lines from where the run stands, on a table of which it is known whether it is sound. A step is
@@ -159,6 +162,21 @@ fn step_lines(run: Run, fit: bool, script: &[u8], out: &mut [u8]) -> Stopped
     }
 }
 
+// The run on the fresh table, after the header's line.
+fn opened(place: usize, wrote: usize, counts: Counts, counter: Ticket, steps: u32) -> Run
+    ensures { λ r. ⌜ r ≡ runAt place wrote (build counts counter .table) steps ⌝ }
+{
+    let built = build(counts, counter);
+    let table = built.table;
+    Run {
+        place,
+        wrote,
+        table,
+        steps,
+        headed: true,
+    }
+}
+
 // The header's line, and the step lines after it.
 fn from_header(run: Run, script: &[u8], out: &mut [u8]) -> Stopped
     requires { ⌜ run .headed ≡ false ⌝ }
@@ -171,15 +189,7 @@ fn from_header(run: Run, script: &[u8], out: &mut [u8]) -> Stopped
         HeaderLine::Header(counts, counter, next) => {
             match writing::write_opening(out, wrote, counts, counter) {
                 Written::Next(w) => {
-                    let built = build(counts, counter);
-                    let table = built.table;
-                    let opened = Run {
-                        place: next,
-                        wrote: w,
-                        table,
-                        steps: done,
-                        headed: true,
-                    };
+                    let opened = opened(next, w, counts, counter, done);
                     step_lines(opened, true, script, out)
                 }
                 Written::OutOfRange => Stopped {

@@ -2,11 +2,13 @@
 use mathlib.Core.Path.{refl}
 use Rattle.ticket.specs.Order.{behind, topBit, after}
 use Rattle.parts.specs.Fold.{upTo}
-use Rattle.block.specs.Sound.{coreSound, unitSound, sound}
+use Rattle.agreement.specs.Agreement.{unitSound}
+use Rattle.soundness.specs.Sound.{coreSound}
+use Rattle.block.specs.Sound.{sound}
 use Rattle.block.specs.Steps.{onSound, step}
-use Rattle.lines.specs.Number.{scan, digits}
+use Rattle.numbers.specs.Number.{scan, digits}
 use Rattle.lines.specs.Reading.{ending}
-use Rattle.translate.specs.Call.{lines}
+use Rattle.calls.specs.Call.{lines}
 use Rattle.vectors.specs.Table.{table, requestAt, Every}
 
 pub every-row : Every table

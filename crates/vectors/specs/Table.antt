@@ -9,12 +9,12 @@ use Rattle.ticket.specs.Kinds.{ticket}
 use Rattle.ticket.specs.Order.{older}
 use Rattle.parts.specs.Parts.{coreNo, unitNo}
 use Rattle.block.specs.Table.{withCounter}
-use Rattle.block.specs.Build.{fresh}
+use Rattle.building.specs.Build.{fresh}
 use Rattle.parts.specs.Answer.{numberOf}
 use Rattle.block.specs.Steps.{step}
 use Rattle.parts.specs.declared.answer.Step.the-variants.{R}
 use Rattle.stops.specs.Run.{beginning}
-use Rattle.translate.specs.Call.{call}
+use Rattle.calls.specs.Call.{call}
 use Rattle.stops.specs.declared.run.Stop.the-variants.{Finished}
 use Rattle.words.specs.Word.{unpack}
 use Rattle.words.specs.declared.word.Unpacked.{Unpacked}

@@ -32,6 +32,11 @@ registerOf w = record { ticket = ticket (w % 65536); valid = eqb (w / 65536 % 2)
 abbrev pub unpack : ℕ → Unpacked
 unpack w = cond (leb 262144 w) Bad (cond (fits (registerOf w)) (Shown (registerOf w)) Bad)
 
+-- a word that shows a register is good
+abbrev pub isGood : Unpacked → Bool
+isGood (Shown r) = true
+isGood Bad = false
+
 -- the numbers that the answers carry: 30 where no word or register is given
 abbrev pub packedNumber : Packed → ℕ
 packedNumber (Word w) = 0

@@ -24,7 +24,7 @@ fn bit(b: bool) -> u32
 }
 
 // The word, by shifts.
-pub(crate) fn word_of(r: Register) -> u32
+fn word_of(r: Register) -> u32
     ensures { λ w. ⌜ w ≡ wordOf r ⌝ }
 {
     let t = r.ticket;
@@ -32,7 +32,7 @@ pub(crate) fn word_of(r: Register) -> u32
 }
 
 // Whether a register is one that a word can show: valid, or blank.
-pub(crate) fn fits(r: Register) -> bool
+fn fits(r: Register) -> bool
     ensures { λ x. ⌜ x ≡ fits r ⌝ }
 {
     let t = r.ticket;
@@ -51,7 +51,7 @@ pub fn pack(r: Register) -> Packed
 }
 
 // The register that a word of eighteen bits shows, by masks and shifts.
-pub(crate) fn register_of(w: u32) -> Register
+fn register_of(w: u32) -> Register
     requires { ⌜ w < 262144 ⌝ }
     ensures { λ r. ⌜ r ≡ registerOf w ⌝ }
 {

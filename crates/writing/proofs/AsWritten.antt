@@ -16,23 +16,26 @@ use Rattle.parts.specs.Parts.{coreNo, unitNo}
 use Rattle.parts.specs.declared.kinds.Counts.{Counts}
 use Rattle.parts.specs.declared.answer.Step.{Step}
 use Rattle.parts.specs.declared.answer.Step.the-variants.{R, N, P, I, C, L}
-use Rattle.lines.specs.Bytes.{tab, end, lineMost, letterT, letterR, letterN, letterP, letterI, letterC, letterL}
-use Rattle.lines.specs.Number.{decimal, numberMost, field}
-use Rattle.lines.specs.Reading.{ending, lineEnd, oneNumber, twoNumbers, afterCore, afterLetter, parseStep, stepLine, stepTo, readStep, withCounter, withSecond, withFirst, withCores, parseHeader, headerLine, headerTo, readHeader}
-use Rattle.writing.specs.Writing.{tabbed, lettered, lettered2, stepBytes, headerBytes}
-use Rattle.lines.specs.declared.number.Field.{Field}
-use Rattle.lines.specs.declared.number.Field.the-variants.{Bad, Last, Then}
+use Rattle.numbers.specs.Bytes.{tab, end}
+use Rattle.lines.specs.Bytes.{lineMost, letterT, letterR, letterN, letterP, letterI, letterC, letterL}
+use Rattle.numbers.specs.Number.{decimal, numberMost, field}
+use Rattle.lines.specs.Reading.{ending, lineEnd, oneNumber, twoNumbers, afterCore, afterLetter, parseStep, stepLine, stepTo, readStep}
+use Rattle.headers.specs.Header.{withCounter, withSecond, withFirst, withCores, parseHeader, headerLine, headerTo, readHeader}
+use Rattle.digits.specs.Text.{tabbed}
+use Rattle.writing.specs.Writing.{lettered, lettered2, stepBytes, headerBytes}
+use Rattle.numbers.specs.declared.number.Field.{Field}
+use Rattle.numbers.specs.declared.number.Field.the-variants.{Bad, Last, Then}
 use Rattle.lines.specs.declared.reading.Ending.{Ending}
 use Rattle.lines.specs.declared.reading.Ending.the-variants.{At, Long, Short}
 use Rattle.lines.specs.declared.reading.Parsed.{Parsed}
 use Rattle.lines.specs.declared.reading.Parsed.the-variants.{Good, Not}
 use Rattle.lines.specs.declared.reading.StepLine.{StepLine}
 use Rattle.lines.specs.declared.reading.StepLine.the-variants.{Line, Finished, Malformed, Unfinished}
-use Rattle.lines.specs.declared.reading.ParsedHeader.{ParsedHeader}
-use Rattle.lines.specs.declared.reading.ParsedHeader.the-variants.{Good as GoodHeader, Not as NoHeader}
-use Rattle.lines.specs.declared.reading.HeaderLine.{HeaderLine}
-use Rattle.lines.specs.declared.reading.HeaderLine.the-variants.{Header, BadHeader, Unfinished as Unended}
-use Rattle.lines.proofs.Scanning.{Says, scan-says}
+use Rattle.headers.specs.declared.reading.ParsedHeader.{ParsedHeader}
+use Rattle.headers.specs.declared.reading.ParsedHeader.the-variants.{Good as GoodHeader, Not as NoHeader}
+use Rattle.headers.specs.declared.reading.HeaderLine.{HeaderLine}
+use Rattle.headers.specs.declared.reading.HeaderLine.the-variants.{Header, BadHeader, Unfinished as Unended}
+use Rattle.numbers.proofs.Scanning.{Says, scan-says}
 use Rattle.writing.proofs.ReadsBack.{Small}
 
 -- The line's end

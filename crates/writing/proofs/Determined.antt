@@ -6,9 +6,6 @@ use Rattle.ticket.specs.Determined.{Determines, DeterminesLeft}
 use Rattle.writing.proofs.writer.write_header.Reads as write-header
 use Rattle.writing.proofs.writer.write_opening.Reads as write-opening
 use Rattle.writing.proofs.writer.write_step.Reads as write-step
-use Rattle.writing.proofs.writer.write_expected.Reads as write-expected
-use Rattle.writing.proofs.writer.expected_fits.Reads as expected-fits
-use Rattle.writing.proofs.writer.put_expected.Reads as put-expected
 
 pub write-header-determined : Determines write-header.Post
 write-header-determined κs a x y s t p q = p .0 ∙ sym (q .0)
@@ -27,18 +24,3 @@ write-step-determined κs a x y s t p q = p .0 ∙ sym (q .0)
 
 pub write-step-left : DeterminesLeft (λ κs s. now (s .0)) write-step.Post
 write-step-left κs a x y s t p q = p .1 ∙ sym (q .1)
-
-pub write-expected-determined : Determines write-expected.Post
-write-expected-determined κs a x y s t p q = p .0 ∙ sym (q .0)
-
-pub write-expected-left : DeterminesLeft (λ κs s. now (s .0)) write-expected.Post
-write-expected-left κs a x y s t p q = p .1 ∙ sym (q .1)
-
-pub expected-fits-determined : Determines expected-fits.Post
-expected-fits-determined κs a x y s t p q = p ∙ sym q
-
-pub put-expected-determined : Determines put-expected.Post
-put-expected-determined κs a x y s t p q = p .goes ∙ sym (q .goes)
-
-pub put-expected-left : DeterminesLeft (λ κs s. now (s .0)) put-expected.Post
-put-expected-left κs a x y s t p q = p .holds ∙ sym (q .holds)

@@ -17,17 +17,20 @@ use Rattle.parts.specs.Parts.{cores}
 use Rattle.parts.specs.declared.kinds.Counts.{Counts}
 use Rattle.parts.specs.declared.answer.Step.{Step}
 use Rattle.parts.specs.declared.answer.Step.the-variants.{R, N, P, I, C, L}
-use Rattle.lines.specs.Bytes.{tab, end, lineMost, letterT, letterR, letterN, letterP, letterI, letterC, letterL}
-use Rattle.lines.specs.Number.{decimal, numberMost, scan, field}
-use Rattle.lines.specs.Reading.{ending, lineEnd, oneNumber, twoNumbers, parseStep, stepLine, readStep, parseHeader, headerLine, readHeader}
-use Rattle.writing.specs.Writing.{tabbed, lettered, lettered2, stepBytes, headerBytes}
-use Rattle.lines.specs.declared.number.Field.the-variants.{Last, Then}
+use Rattle.numbers.specs.Bytes.{tab, end}
+use Rattle.lines.specs.Bytes.{lineMost, letterT, letterR, letterN, letterP, letterI, letterC, letterL}
+use Rattle.numbers.specs.Number.{decimal, numberMost, scan, field}
+use Rattle.lines.specs.Reading.{ending, lineEnd, oneNumber, twoNumbers, parseStep, stepLine, readStep}
+use Rattle.headers.specs.Header.{parseHeader, headerLine, readHeader}
+use Rattle.digits.specs.Text.{tabbed}
+use Rattle.writing.specs.Writing.{lettered, lettered2, stepBytes, headerBytes}
+use Rattle.numbers.specs.declared.number.Field.the-variants.{Last, Then}
 use Rattle.lines.specs.declared.reading.Ending.the-variants.{At}
 use Rattle.lines.specs.declared.reading.Parsed.the-variants.{Good}
 use Rattle.lines.specs.declared.reading.StepLine.the-variants.{Line}
-use Rattle.lines.specs.declared.reading.ParsedHeader.the-variants.{Good as GoodHeader}
-use Rattle.lines.specs.declared.reading.HeaderLine.the-variants.{Header}
-use Rattle.lines.proofs.Scanning.{AllDigits, digits-all, digits-most, scan-digits, decimal-length}
+use Rattle.headers.specs.declared.reading.ParsedHeader.the-variants.{Good as GoodHeader}
+use Rattle.headers.specs.declared.reading.HeaderLine.the-variants.{Header}
+use Rattle.numbers.proofs.Scanning.{AllDigits, digits-all, digits-most, scan-digits, decimal-length}
 
 -- The line's end
 

@@ -3,8 +3,8 @@ use Prim.Native.Nat.{ℕ}
 use mathlib.Core.Path.{_≡_, sym, _∙_, ap}
 use borrow.Author.Needs.{needs}
 use Rattle.lines.specs.Reading.{twoNumbers, afterCore}
-use Rattle.lines.specs.declared.number.Field.{Field}
-use Rattle.lines.specs.declared.number.Field.the-variants.{Last}
+use Rattle.numbers.specs.declared.number.Field.{Field}
+use Rattle.numbers.specs.declared.number.Field.the-variants.{Last}
 use Rattle.lines.specs.declared.reading.Parsed.{Parsed}
 use Rattle.lines.proofs.reading.after_core.Statement.{statement}
 use Rattle.lines.proofs.reading.after_core.Tie as tie

@@ -3,10 +3,10 @@ use Prim.Native.Nat.{ℕ}
 use mathlib.Core.List.{List}
 use mathlib.Core.Path.{_≡_, sym, _∙_, ap}
 use borrow.Author.Needs.{needs}
-use Rattle.lines.specs.Number.{field}
+use Rattle.numbers.specs.Number.{field}
 use Rattle.lines.specs.Reading.{oneNumber, afterCore, afterLetter}
-use Rattle.lines.specs.declared.number.Field.{Field}
-use Rattle.lines.specs.declared.number.Field.the-variants.{Last, Then}
+use Rattle.numbers.specs.declared.number.Field.{Field}
+use Rattle.numbers.specs.declared.number.Field.the-variants.{Last, Then}
 use Rattle.lines.specs.declared.reading.Parsed.{Parsed}
 use Rattle.lines.proofs.reading.after_letter.Statement.{statement}
 use Rattle.lines.proofs.reading.after_letter.Tie as tie

@@ -6,10 +6,10 @@ use native.Mathlib.Omega.{arith}
 use lib.ListN.{length, getD, List·getD-eq-default}
 use borrow.Author.Tests.{eq-eqb, ne-eqb}
 use borrow.Author.Needs.{needs}
-use Rattle.lines.specs.Bytes.{tab}
-use Rattle.lines.specs.Number.{field}
+use Rattle.numbers.specs.Bytes.{tab}
+use Rattle.numbers.specs.Number.{field}
 use Rattle.lines.specs.Reading.{afterLetter, parseStep}
-use Rattle.lines.specs.declared.number.Field.{Field}
+use Rattle.numbers.specs.declared.number.Field.{Field}
 use Rattle.lines.specs.declared.reading.Parsed.{Parsed}
 use Rattle.lines.specs.declared.reading.Parsed.the-variants.{Not}
 use Rattle.lines.proofs.reading.parse_step.Statement.{statement}

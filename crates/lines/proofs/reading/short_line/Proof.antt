@@ -9,7 +9,7 @@ use borrow.Author.Tests.{le-ltb, lt-ltb, eq-eqb, ne-eqb, not-true, not-false}
 use lib.Dec.{eqb}
 use lib.ListN.{length, getD}
 use Rattle.parts.proofs.Bools.{and-left, and-right}
-use Rattle.lines.specs.Bytes.{tab, end}
+use Rattle.numbers.specs.Bytes.{tab, end}
 use Rattle.lines.specs.ShortLine.{digit, shortLine}
 use Rattle.lines.specs.declared.reading.Short.the-variants.{One, Two, Other}
 use Rattle.lines.proofs.Shortly.{digit-says}

@@ -4,9 +4,6 @@ use Rattle.plan.proofs.Deciding.{enters-plan}
 use Rattle.plan.proofs.planning.entering.Statement.{statement}
 use Rattle.plan.proofs.planning.entering.Tie as tie
 
-cast-i : tie.Need-cast-i
-cast-i c = search needs
-
 standing-requires : tie.Need-standing-requires
 standing-requires c κs = search needs
 
@@ -21,10 +18,10 @@ done-requires c κs = search needs
 
 returns : tie.Need-returns
 returns c =
-    let b = c .before .before .before .before .before .args in
-    enters-plan (b .k .0) (b .c) (b .u) (b .x) (b .n) (b .counter) _ _ _ _ (c .before .before .before .standing .ensures) (c .before .before .winner .ensures) (c .before .one-grant .ensures) (c .done .ensures)
+    let b = c .before .before .before .before .args in
+    enters-plan (b .k) (b .c) (b .u) (b .x) (b .n) (b .counter) _ _ _ _ (c .before .before .before .standing .ensures) (c .before .before .winner .ensures) (c .before .one-grant .ensures) (c .done .ensures)
 
 pub entering-spec : {M : Type 1} → statement M
 entering-spec =
     tie.close
-    (tie.spec cast-i standing-requires winner-requires one-grant-requires done-requires returns)
+    (tie.spec standing-requires winner-requires one-grant-requires done-requires returns)

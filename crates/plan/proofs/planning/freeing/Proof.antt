@@ -4,9 +4,6 @@ use Rattle.plan.proofs.Deciding.{frees-first, frees-both}
 use Rattle.plan.proofs.planning.freeing.Statement.{statement}
 use Rattle.plan.proofs.planning.freeing.Tie as tie
 
-cast-i : tie.Need-cast-i
-cast-i c = search needs
-
 blank-requires : tie.Need-blank-requires
 blank-requires c κs = search needs
 
@@ -30,8 +27,8 @@ one-grant-requires c κs = search needs
 
 returns : tie.Need-returns
 returns c =
-    let b = c .before .before .before .before .before .before .before .before .before .before .args in
-    frees-both (b .k .0) (b .c) (b .x) (b .y) _ _ _ _
+    let b = c .before .before .before .before .before .before .before .before .before .args in
+    frees-both (b .k) (b .c) (b .x) (b .y) _ _ _ _
     (c .before .before .before .before .two-stage .ensures)
     (c .before .before .before .before .before .before .blank .ensures)
     (c .before .before .before .before .before .winner .ensures)
@@ -43,8 +40,8 @@ returns c =
 
 returns-2 : tie.Need-returns-2
 returns-2 c =
-    let b = c .before .before .before .before .before .before .before .before .args in
-    frees-first (b .k .0) (b .c) (b .x) (b .y) _ _ _ _
+    let b = c .before .before .before .before .before .before .before .args in
+    frees-first (b .k) (b .c) (b .x) (b .y) _ _ _ _
     (c .before .before .two-stage .ensures)
     (c .before .before .before .before .blank .ensures)
     (c .before .before .before .winner .ensures)
@@ -55,7 +52,6 @@ pub freeing-spec : {M : Type 1} → statement M
 freeing-spec =
     tie.close
     (tie.spec
-    cast-i
     blank-requires
     winner-requires
     two-stage-requires

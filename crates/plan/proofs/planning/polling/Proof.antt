@@ -4,9 +4,6 @@ use Rattle.plan.proofs.Deciding.{plan-granted, plan-heir, plan-waits}
 use Rattle.plan.proofs.planning.polling.Statement.{statement}
 use Rattle.plan.proofs.planning.polling.Tie as tie
 
-cast-i : tie.Need-cast-i
-cast-i c = search needs
-
 mul-p : tie.Need-mul-p
 mul-p c = search needs
 
@@ -24,6 +21,11 @@ holding-requires c κs = search needs
 
 quietly-requires : tie.Need-quietly-requires
 quietly-requires c κs = search needs
+
+returns : tie.Need-returns
+returns c =
+    let b = c .before .before .before .before .before .before .args in
+    plan-granted (b .k) (b .c) (b .counter) (b .t4) (b .t5) _ _ (c .before .before .if1 .taken) (c .before .holding .ensures) (c .quietly .ensures)
 
 two-stage-requires : tie.Need-two-stage-requires
 two-stage-requires c κs = search needs
@@ -43,18 +45,10 @@ standing-requires c κs = search needs
 quietly-requires-2 : tie.Need-quietly-requires-2
 quietly-requires-2 c κs = search needs
 
-quietly-requires-3 : tie.Need-quietly-requires-3
-quietly-requires-3 c κs = search needs
-
-returns : tie.Need-returns
-returns c =
-    let b = c .before .before .before .before .before .before .before .args in
-    plan-granted (b .k .0) (b .c) (b .counter) (b .t4) (b .t5) _ _ (c .before .before .if1 .taken) (c .before .holding .ensures) (c .quietly .ensures)
-
 returns-2 : tie.Need-returns-2
 returns-2 c =
-    let b = c .before .before .before .before .before .before .before .before .before .before .before .before .args in
-    plan-heir (b .k .0) (b .c) (b .counter) (b .t4) (b .t5) _ _ _
+    let b = c .before .before .before .before .before .before .before .before .before .before .before .args in
+    plan-heir (b .k) (b .c) (b .counter) (b .t4) (b .t5) _ _ _
     (c .before .before .before .before .before .before .two-stage .ensures)
     (c .before .before .before .before .before .before .before .if1 .left)
     _ _ _
@@ -65,29 +59,31 @@ returns-2 c =
     (c .before .standing .ensures)
     (c .quietly2 .ensures)
 
+quietly-requires-3 : tie.Need-quietly-requires-3
+quietly-requires-3 c κs = search needs
+
 returns-3 : tie.Need-returns-3
 returns-3 c =
-    let b = c .before .before .before .before .before .before .before .before .args in
-    plan-waits (b .k .0) (b .c) (b .counter) (b .t4) (b .t5) (b .c) _ _ (c .before .before .two-stage .ensures) (c .before .before .before .if1 .left) (c .before .if2 .left) (c .quietly3 .ensures)
+    let b = c .before .before .before .before .before .before .before .args in
+    plan-waits (b .k) (b .c) (b .counter) (b .t4) (b .t5) (b .c) _ _ (c .before .before .two-stage .ensures) (c .before .before .before .if1 .left) (c .before .if2 .left) (c .quietly3 .ensures)
 
 pub polling-spec : {M : Type 1} → statement M
 polling-spec =
     tie.close
     (tie.spec
-    cast-i
     mul-p
     element-copy-out-p
     mul-r
     element-copy-out-r
     holding-requires
     quietly-requires
+    returns
     two-stage-requires
     next-requires
     heir-requires
     carrying-requires
     standing-requires
     quietly-requires-2
-    quietly-requires-3
-    returns
     returns-2
+    quietly-requires-3
     returns-3)

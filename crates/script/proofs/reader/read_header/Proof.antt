@@ -33,13 +33,13 @@ use denote.Triple.Spec.{Meets, tripleOf}
 use denote.Triple.Table.{entered, cited}
 use denote.Triple.Walked.{says, Stays, stay-none, stay-none-slice, walkOf, goes-none, goes-none-slice, ends-at, walked, walk-meets}
 use denote.Exit.{yes}
-use Rattle.lines.specs.Reading.{readHeader}
+use Rattle.headers.specs.Header.{readHeader}
 use Rattle.script.specs.Script.{opened}
-use Rattle.lines.specs.declared.reading.HeaderLine.{HeaderLine}
+use Rattle.headers.specs.declared.reading.HeaderLine.{HeaderLine}
 use Rattle.script.specs.declared.reader.ScriptReader.{ScriptReader}
 use Rattle.script.proofs.Walks.{B, spelled, Open, plainly, to-open, Slice, goes-open, said-open, goes-on}
-use Rattle.lines.proofs.reading.HeaderLine as S
-use Rattle.lines.proofs.reading.HeaderLine.Laws as S′
+use Rattle.headers.proofs.reading.HeaderLine as S
+use Rattle.headers.proofs.reading.HeaderLine.Laws as S′
 use Rattle.script.proofs.reader.ScriptReader as T
 use Rattle.script.proofs.reader.ScriptReader.Laws as T′
 use Rattle.script.proofs.reader.ScriptReader.open as opens

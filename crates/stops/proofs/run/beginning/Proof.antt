@@ -1,9 +1,9 @@
--- `translate::run::beginning` meets its contract: the table is the one that was built.
+-- `stops::run::beginning` meets its contract: the table is the one that was built.
 use mathlib.Core.Bool.{false}
 use mathlib.Core.Path.{_≡_, ap}
 use borrow.Author.Needs.{needs}
-use Rattle.block.specs.Build.{build}
-use Rattle.block.specs.declared.building.Built.{Built}
+use Rattle.building.specs.Build.{build}
+use Rattle.building.specs.declared.building.Built.{Built}
 use Rattle.ticket.specs.Kinds.{ticket}
 use Rattle.stops.specs.Run.{beginning}
 use Rattle.stops.specs.declared.run.Run.{Run}

@@ -1,4 +1,4 @@
--- `translate::call::due` meets its contract: the tests in their order, then the case of the line that was read.
+-- `stops::todo::due` meets its contract: the tests in their order, then the case of the line that was read.
 use mathlib.Core.Path.{_≡_}
 use borrow.Author.Needs.{needs}
 use Rattle.stops.proofs.Judging.{past, many, lined}

@@ -1,4 +1,4 @@
--- `translate::call::worked` meets its contract: by the test.
+-- `stops::todo::worked` meets its contract: by the test.
 use mathlib.Core.Path.{_≡_}
 use borrow.Author.Needs.{needs}
 use Rattle.stops.proofs.Judging.{fit-works, unfit-stops}

@@ -2,7 +2,7 @@
 -- written; the table that was built is sound.
 use mathlib.Core.Path.{_≡_, refl, sym, _∙_, ap}
 use Rattle.block.specs.Sound.{sound}
-use Rattle.block.specs.declared.building.Built.{Built}
+use Rattle.stops.specs.declared.run.Run.{Run}
 use Rattle.laws.proofs.Keeping.{build-sound}
 use Rattle.translate.proofs.Turning.{no-header, cut-header, opened-by, out-of-range, no-room-opening}
 use borrow.Author.Needs.{needs}
@@ -21,12 +21,14 @@ write-opening-requires c κs = search needs
 enum-known-w : tie.Need-enum-known-w
 enum-known-w c = search needs
 
-build-requires : tie.Need-build-requires
-build-requires c κs = search needs
+opened-requires : tie.Need-opened-requires
+opened-requires c κs = search needs
 
 step-lines-requires : tie.Need-step-lines-requires
 step-lines-requires c κs =
-    (refl, sym (ap (λ (b : Built). sound (b .table)) (c .before .before .build .ensures) ∙ build-sound (c .before .before .before .before .before .before .before .before .before .before .before .counts .given .0 .0) (c .before .before .before .before .before .before .before .before .before .before .before .counts .given .0 .1 .0)))
+    let q = c .before .opened .ensures in
+    let g = c .before .before .before .before .before .before .before .before .before .before .counts .given .0 in
+    (ap (λ (r : Run). r .headed) q, sym (ap (λ (r : Run). sound (r .table)) q ∙ build-sound (g .0) (g .1 .0)))
 
 enum-told : tie.Need-enum-told
 enum-told c = search needs
@@ -45,11 +47,13 @@ same-length c = search needs
 
 returns : tie.Need-returns
 returns c =
-    let a = c .before .before .before .before .before .before .before .before .before .before .before .before .before .before .before .before .before .before .before in
-    let h = c .before .before .before .before .before .before .before .before .before .before .before .before .before .before .before .before .read-header in
-    let g = c .before .before .before .before .before .before .before .before .before .before .before .before .before .before .counts .given in
-    let o = c .before .before .before .before .before .before .before .before .before .before .before .write-opening in
-    opened-by (a .args .run) (a .args .script .now) (a .args .out .now) (a .pre) (h .result) (h .ensures) (g .0 .0) (g .0 .1 .0) (g .0 .1 .1 .0) (g .1) (o .result) _ (o .ensures) (c .before .before .before .before .before .before .before .w .given .0 .0) (c .before .before .before .before .before .build .result) _ _ _ (c .before .before .before .before .before .before .before .w .given .1) (c .before .before .before .before .before .build .ensures) refl (c .before .before .step-lines .ensures)
+    let a = c .before .before .before .before .before .before .before .before .before .before .before .before .before .before .before .before .before .before in
+    let h = c .before .before .before .before .before .before .before .before .before .before .before .before .before .before .before .read-header in
+    let g = c .before .before .before .before .before .before .before .before .before .before .before .before .before .counts .given in
+    let o = c .before .before .before .before .before .before .before .before .before .before .write-opening in
+    let w = c .before .before .before .before .before .before .w .given in
+    let q = c .before .before .before .before .opened in
+    opened-by (a .args .run) (a .args .script .now) (a .args .out .now) (a .pre) (h .result) (h .ensures) (g .0 .0) (g .0 .1 .0) (g .0 .1 .1 .0) (g .1) (o .result) _ (o .ensures) (w .0 .0) (q .result) _ _ (w .1) (q .ensures) (c .before .before .step-lines .ensures)
 
 same-length-2 : tie.Need-same-length-2
 same-length-2 c = search needs
@@ -93,7 +97,7 @@ from-header-spec =
     enum-known-counts
     write-opening-requires
     enum-known-w
-    build-requires
+    opened-requires
     step-lines-requires
     enum-told
     enum-told-2

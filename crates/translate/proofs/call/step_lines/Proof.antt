@@ -21,15 +21,15 @@ use Rattle.places.specs.declared.place.Flags.the-variants.{One, Two}
 use Rattle.parts.specs.declared.kinds.Register.{Register}
 use Rattle.block.specs.declared.table.Table.{Table}
 use Rattle.block.proofs.Access.{Shaped}
-use Rattle.writing.specs.Writing.{expectedBytes}
-use Rattle.writing.specs.declared.writer.Written.the-variants.{Next, NoRoom}
-use Rattle.writing.proofs.Pasting.{kept, written, roomy, refused}
-use Rattle.translate.specs.Call.{Ended, runAt, stoppedAt, translated, call}
+use Rattle.expected.specs.Expected.{expectedBytes}
+use Rattle.digits.specs.declared.room.Written.the-variants.{Next, NoRoom}
+use Rattle.digits.proofs.Pasting.{kept, written, roomy, refused}
+use Rattle.calls.specs.Call.{Ended, runAt, stoppedAt, translated, call}
 use Rattle.translate.specs.Registers.{unitWith, withRegisters}
 use Rattle.stops.specs.declared.run.Stop.the-variants.{NoRoom as Full}
 use Rattle.stops.specs.declared.run.Stopped.{Stopped}
 use Rattle.translate.proofs.Held.{held}
-use Rattle.translate.proofs.Fuel.{read-within}
+use Rattle.calls.proofs.Fuel.{read-within}
 use Rattle.translate.proofs.InPlace.{core-in, unit-in, other-in, flags-in, counted, none-set, one-set, two-set, in-place, put-back, stays-sound, stays-shaped}
 use Rattle.translate.proofs.Rows.{setAt, same-registers}
 use Rattle.translate.proofs.Turning.{Working, working, stops, answers, no-room, begins}

@@ -2,7 +2,7 @@
 use mathlib.Core.Path.{ap}
 use borrow.Author.Needs.{needs}
 use Rattle.block.specs.declared.table.Table.{Table}
-use Rattle.translate.specs.Call.{stoppedAt}
+use Rattle.calls.specs.Call.{stoppedAt}
 use Rattle.translate.proofs.call.stopped.Statement.{statement}
 use Rattle.translate.proofs.call.stopped.Tie as tie
 

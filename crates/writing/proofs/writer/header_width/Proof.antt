@@ -7,7 +7,8 @@ use lib.ListN.{length, length-append}
 use Rattle.ticket.specs.declared.kinds.Ticket.{Ticket}
 use Rattle.parts.specs.declared.kinds.Counts.{Counts}
 use Rattle.lines.specs.Bytes.{letterT}
-use Rattle.writing.specs.Writing.{tabbed, headerBytes}
+use Rattle.digits.specs.Text.{tabbed}
+use Rattle.writing.specs.Writing.{headerBytes}
 use Rattle.writing.proofs.writer.header_width.Statement.{statement}
 use Rattle.writing.proofs.writer.header_width.Tie as tie
 

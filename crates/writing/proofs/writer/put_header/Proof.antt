@@ -7,10 +7,10 @@ use native.Mathlib.Omega.{arith}
 use lib.ListN.{length, set}
 use Rattle.ticket.specs.declared.kinds.Ticket.{Ticket}
 use Rattle.parts.specs.declared.kinds.Counts.{Counts}
-use Rattle.lines.specs.Bytes.{end}
-use Rattle.writing.specs.Text.{Puts}
-use Rattle.writing.specs.Writing.{tabbed, headerBytes}
-use Rattle.writing.proofs.Pasting.{one, then, kept, reaches, first, rest}
+use Rattle.numbers.specs.Bytes.{end}
+use Rattle.digits.specs.Text.{tabbed, Puts}
+use Rattle.writing.specs.Writing.{headerBytes}
+use Rattle.digits.proofs.Pasting.{one, then, kept, reaches, first, rest}
 use Rattle.writing.proofs.writer.put_header.Statement.{statement}
 use Rattle.writing.proofs.writer.put_header.Tie as tie
 

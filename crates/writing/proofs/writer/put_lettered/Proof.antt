@@ -5,10 +5,10 @@ use mathlib.Core.List.{List, [], _∷_, _++_}
 use mathlib.Core.Path.{_≡_, refl}
 use native.Mathlib.Omega.{arith}
 use lib.ListN.{length, set}
-use Rattle.lines.specs.Bytes.{end}
-use Rattle.writing.specs.Text.{Puts}
-use Rattle.writing.specs.Writing.{tabbed, lettered}
-use Rattle.writing.proofs.Pasting.{one, then, kept, reaches, first, rest}
+use Rattle.numbers.specs.Bytes.{end}
+use Rattle.digits.specs.Text.{tabbed, Puts}
+use Rattle.writing.specs.Writing.{lettered}
+use Rattle.digits.proofs.Pasting.{one, then, kept, reaches, first, rest}
 use Rattle.writing.proofs.writer.put_lettered.Statement.{statement}
 use Rattle.writing.proofs.writer.put_lettered.Tie as tie
 

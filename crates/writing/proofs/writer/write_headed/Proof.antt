@@ -12,10 +12,10 @@ use Rattle.parts.proofs.Bools.{not-true-false}
 use Rattle.parts.specs.Range.{inRange}
 use Rattle.parts.specs.declared.kinds.Counts.{Counts}
 use Rattle.lines.specs.Bytes.{letterT}
-use Rattle.writing.specs.Text.{Puts}
+use Rattle.digits.specs.Text.{Puts}
 use Rattle.writing.specs.Writing.{headerBytes, wroteHeader, leftHeader}
-use Rattle.writing.specs.declared.writer.Written.the-variants.{Next, OutOfRange, NoRoom}
-use Rattle.writing.proofs.Pasting.{written, roomy, refused}
+use Rattle.digits.specs.declared.room.Written.the-variants.{Next, OutOfRange, NoRoom}
+use Rattle.digits.proofs.Pasting.{written, roomy, refused}
 use Rattle.writing.proofs.writer.write_headed.Statement.{statement}
 use Rattle.writing.proofs.writer.write_headed.Tie as tie
 

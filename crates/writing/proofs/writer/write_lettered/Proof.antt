@@ -7,9 +7,11 @@ use mathlib.Core.Path.{_≡_, _∙_, ap}
 use native.Mathlib.Omega.{arith}
 use lib.Dec.{leb}
 use lib.ListN.{length, length-append}
-use Rattle.writing.specs.Writing.{tabbed, lettered, fits, wrote, left}
-use Rattle.writing.specs.declared.writer.Written.the-variants.{NoRoom}
-use Rattle.writing.proofs.Pasting.{written, roomy, refused}
+use Rattle.digits.specs.Text.{tabbed}
+use Rattle.digits.specs.Room.{fits, wrote, left}
+use Rattle.writing.specs.Writing.{lettered}
+use Rattle.digits.specs.declared.room.Written.the-variants.{NoRoom}
+use Rattle.digits.proofs.Pasting.{written, roomy, refused}
 use Rattle.writing.proofs.writer.write_lettered.Statement.{statement}
 use Rattle.writing.proofs.writer.write_lettered.Tie as tie
 

@@ -4,8 +4,9 @@ use Prim.Native.Nat.{ℕ}
 use mathlib.Core.List.{List}
 use mathlib.Core.Path.{_≡_}
 use Rattle.parts.specs.declared.answer.Step.{Step}
-use Rattle.writing.specs.Writing.{stepBytes, wrote, left}
-use Rattle.writing.specs.declared.writer.Written.{Written}
+use Rattle.digits.specs.Room.{wrote, left}
+use Rattle.writing.specs.Writing.{stepBytes}
+use Rattle.digits.specs.declared.room.Written.{Written}
 use Rattle.writing.proofs.writer.write_step.Statement.{statement}
 use Rattle.writing.proofs.writer.write_step.Tie as tie
 

@@ -5,21 +5,19 @@ use mathlib.Core.Path.{_≡_}
 use Rattle.parts.specs.Fold.{every}
 use Rattle.parts.specs.Parts.{cores, units}
 use Rattle.parts.specs.Range.{inRange}
-use Rattle.block.specs.Seen.{seen}
 use Rattle.block.specs.Sound.{coreSound, unitSound, sound}
 use Rattle.block.specs.declared.table.Table.{Table}
 use Rattle.parts.proofs.Bools.{both}
 use Rattle.block.proofs.table.Table.sound.Statement.{statement}
 use Rattle.block.proofs.table.Table.sound.Tie as tie
 
--- the clauses of a core read the counts, the counter and the cores alone
 joined :
     (t : Table) (a b d : Bool) →
     a ≡ inRange (t .counts) →
-    b ≡ every (coreSound (seen (t .counts) (t .counter) (t .cores))) cores →
+    b ≡ every (coreSound t) cores →
     d ≡ every (unitSound t) units →
     (a && b && d) ≡ sound t
-unfolding sound coreSound
+unfolding sound
 joined t a b d counts core unit = both (both counts core) unit
 
 in-range-requires : tie.Need-in-range-requires

@@ -1,25 +1,14 @@
 -- `block::table::Table::units_sound` meets its contract: after u turns, ok says whether the first u units are sound.
 use borrow.Author.Needs.{needs}
-use Prim.Native.Nat.{ℕ, _+_, _≤_, _-_}
-use mathlib.Core.Bool.{Bool, _&&_}
+use Prim.Native.Nat.{_≤_, _-_}
 use mathlib.Core.Path.{_≡_}
 use Rattle.parts.specs.Fold.{every}
-use Rattle.parts.specs.Parts.{cores, units}
-use Rattle.block.specs.Table.{coreOf, unitOf, registerOf}
-use Rattle.block.specs.Sound.{agrees, oneFlag, unitSound}
-use Rattle.block.specs.declared.table.Table.{Table}
+use Rattle.parts.specs.Parts.{units}
+use Rattle.block.specs.Sound.{unitSound}
 use Rattle.parts.proofs.Folds.{none, finished}
 use Rattle.parts.proofs.Loops.{every-more}
 use Rattle.block.proofs.table.Table.units_sound.Statement.{statement}
 use Rattle.block.proofs.table.Table.units_sound.Tie as tie
-
-one-more :
-    (t : Table) (u : ℕ) (ok r : Bool) →
-    ok ≡ every (unitSound t) u →
-    r ≡ (every (λ (k : ℕ). agrees (coreOf t k) u (registerOf t u k)) cores && oneFlag (unitOf t u)) →
-    (ok && r) ≡ every (unitSound t) (u + 1)
-unfolding unitSound
-one-more t u ok r so last = every-more (unitSound t) u ok r so last
 
 abbrev Inv-loop : tie.InvT-loop
 Inv-loop self ok₀ u₀ ok u = (u ≤ units) × (ok ≡ every (unitSound self) u)
@@ -46,7 +35,7 @@ loop-less : tie.Need-loop-less Inv-loop μ-loop
 loop-less c = search needs
 
 loop-again : tie.Need-loop-again Inv-loop μ-loop
-loop-again c = search (one-more, needs)
+loop-again c = search (every-more, needs)
 
 returns : tie.Need-returns Inv-loop μ-loop
 returns c = search (finished, needs)

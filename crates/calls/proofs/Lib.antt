@@ -1,0 +1,11 @@
+pub mod Fuel
+pub mod Script
+pub mod Pasting
+pub mod Asked
+pub mod Along
+pub mod GoesOn
+pub mod Moved
+pub mod Columns
+pub mod Kept
+pub mod Chains
+pub mod Pieces

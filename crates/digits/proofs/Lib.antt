@@ -1,0 +1,4 @@
+pub mod Parts
+pub mod Pasting
+pub mod Lengths
+pub mod Determined

@@ -1,0 +1,29 @@
+-- Expected lines as they are written. "Each step gives: step number from 1, answer, ticket, number of grants, then unit and core of
+-- each grant by rising unit." "A line has at most 27 bytes."
+use Prim.Native.Nat.{ℕ}
+use mathlib.Core.List.{List, [], _∷_, _++_}
+use Rattle.ticket.specs.declared.kinds.Grant.{Grant}
+use Rattle.ticket.specs.declared.kinds.Ticket.{Ticket}
+use Rattle.parts.specs.Answer.{numberOf}
+use Rattle.parts.specs.declared.answer.Answer.{Answer}
+use Rattle.parts.specs.declared.answer.Grants.{Grants}
+use Rattle.parts.specs.declared.answer.Grants.the-variants.{None, One, Two}
+use Rattle.numbers.specs.Bytes.{end}
+use Rattle.numbers.specs.Number.{decimal}
+use Rattle.digits.specs.Text.{tabbed}
+
+-- the longest expected line, with its end
+abbrev pub expectedMost : ℕ
+expectedMost = 27
+
+abbrev pub grantBytes : Grant → List ℕ
+grantBytes g = tabbed (g .unit .0) ++ tabbed (g .core .0)
+
+-- how many grants, and each
+abbrev pub grantsBytes : Grants → List ℕ
+grantsBytes None = tabbed 0
+grantsBytes (One g) = tabbed 1 ++ grantBytes g
+grantsBytes (Two g h) = tabbed 2 ++ (grantBytes g ++ grantBytes h)
+
+abbrev pub expectedBytes : ℕ → Answer → Ticket → Grants → List ℕ
+expectedBytes i a n g = decimal i ++ (tabbed (numberOf a) ++ (tabbed (n .0) ++ (grantsBytes g ++ (end ∷ []))))

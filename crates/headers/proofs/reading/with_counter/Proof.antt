@@ -1,0 +1,36 @@
+-- `headers::reading::with_counter` meets its contract: the case of the field.
+use Prim.Native.Nat.{ℕ}
+use mathlib.Core.Path.{_≡_, sym, ap}
+use borrow.Author.Needs.{needs}
+use Rattle.ticket.specs.Kinds.{ticket}
+use Rattle.headers.specs.Header.{counts, withCounter}
+use Rattle.numbers.specs.declared.number.Field.{Field}
+use Rattle.numbers.specs.declared.number.Field.the-variants.{Last}
+use Rattle.headers.specs.declared.reading.ParsedHeader.the-variants.{Good}
+use Rattle.headers.proofs.reading.with_counter.Statement.{statement}
+use Rattle.headers.proofs.reading.with_counter.Tie as tie
+
+last : (a b c n : ℕ) (f : Field) → f ≡ Last n → Good (counts a b c) (ticket n) ≡ withCounter a b c f
+last a b c n f e = ap (withCounter a b c) (sym e)
+
+enum-told : tie.Need-enum-told
+enum-told c = search needs
+
+enum-known-f : tie.Need-enum-known-f
+enum-known-f c = search needs
+
+enum-told-2 : tie.Need-enum-told-2
+enum-told-2 c = search needs
+
+returns : tie.Need-returns
+returns c = search needs
+
+returns-2 : tie.Need-returns-2
+returns-2 c = search last
+
+returns-3 : tie.Need-returns-3
+returns-3 c = search needs
+
+pub with-counter-spec : {M : Type 1} → statement M
+with-counter-spec =
+    tie.close (tie.spec enum-told enum-known-f enum-told-2 returns returns-2 returns-3)

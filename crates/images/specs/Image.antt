@@ -1,0 +1,77 @@
+-- "A table's image is its units in order, each with its cores in order. Reading one, for given counts, yields the units' registers and
+-- nothing of the cores' states. It judges the words and their number only: a bad word, or a number of words other than units times
+-- cores, refuses the whole with 30; counts out of range refuse with 20 before that." "Writing an image takes counts and units and gives
+-- 20, then 30, on the same grounds; the room lent must be exactly its words. What stands past the counts isn't read."
+use Prim.Native.Nat.{ℕ, _+_, _*_, _/_, _%_}
+use mathlib.Core.Bool.{Bool, cond, _&&_}
+use mathlib.Core.List.{List}
+use lib.Dec.{eqb}
+use lib.ListN.{length, getD, set, replicate}
+use Rattle.parts.specs.Fold.{upTo, every}
+use Rattle.parts.specs.Parts.{cores, units, blank, noUnit, registerIn}
+use Rattle.parts.specs.Range.{inRange}
+use Rattle.parts.specs.declared.kinds.Register.{Register}
+use Rattle.parts.specs.declared.kinds.LockUnit.{LockUnit}
+use Rattle.parts.specs.declared.kinds.Counts.{Counts}
+use Rattle.words.specs.Word.{fits, wordOf, registerOf, unpack, isGood}
+use Rattle.images.specs.declared.image.Image.{Image}
+use Rattle.images.specs.declared.image.ImageAnswer.{ImageAnswer}
+use Rattle.images.specs.declared.image.ImageAnswer.the-variants.{Done, OutOfRange, BadImage}
+
+-- how many words an image of these counts has
+abbrev pub wordCount : Counts → ℕ
+wordCount c = (c .first + c .second) * c .cores
+
+-- no register valid
+abbrev pub emptyUnits : List LockUnit
+emptyUnits = replicate units (record { registers = replicate cores blank })
+
+-- the register of word i: unit i / cores, core i mod cores
+abbrev pub registerAt : Counts → List LockUnit → ℕ → Register
+registerAt c xs i = registerIn (getD xs (i / c .cores) noUnit) (i % c .cores)
+
+abbrev pub withRegisterAt : Counts → List LockUnit → ℕ → Register → List LockUnit
+withRegisterAt c xs i r =
+    set xs (i / c .cores) (record { registers = set (getD xs (i / c .cores) noUnit .registers) (i % c .cores) r })
+
+-- Reading
+
+-- word i is good
+abbrev pub goodWord : List ℕ → ℕ → Bool
+goodWord ws i = isGood (unpack (getD ws i 0))
+
+-- its register goes to its place
+abbrev pub placeWord : Counts → List ℕ → ℕ → List LockUnit → List LockUnit
+placeWord c ws i xs = withRegisterAt c xs i (registerOf (getD ws i 0))
+
+abbrev pub goodImage : Counts → List ℕ → Bool
+goodImage c ws = eqb (length ws) (wordCount c) && every (goodWord ws) (wordCount c)
+
+abbrev pub unitsOf : Counts → List ℕ → List LockUnit
+unitsOf c ws = upTo (placeWord c ws) (wordCount c) emptyUnits
+
+abbrev pub readImage : Counts → List ℕ → Image
+readImage c ws =
+    cond (inRange c)
+    (cond (goodImage c ws) (record { units = unitsOf c ws; answer = Done }) (record { units = emptyUnits; answer = BadImage }))
+    (record { units = emptyUnits; answer = OutOfRange })
+
+-- Writing
+
+abbrev pub writable : Counts → List LockUnit → ℕ → Bool
+writable c xs room = eqb room (wordCount c) && every (λ (i : ℕ). fits (registerAt c xs i)) (wordCount c)
+
+-- the words that the room holds then
+abbrev pub wordsInto : Counts → List LockUnit → List ℕ → List ℕ
+wordsInto c xs out = upTo (λ (i : ℕ) (o : List ℕ). set o i (wordOf (registerAt c xs i))) (wordCount c) out
+
+abbrev pub writeAnswer : Counts → List LockUnit → ℕ → ImageAnswer
+writeAnswer c xs room = cond (inRange c) (cond (writable c xs room) Done BadImage) OutOfRange
+
+abbrev pub writeLeft : Counts → List LockUnit → List ℕ → List ℕ
+writeLeft c xs out = cond (inRange c) (cond (writable c xs (length out)) (wordsInto c xs out) out) out
+
+abbrev pub imageNumber : ImageAnswer → ℕ
+imageNumber Done = 0
+imageNumber OutOfRange = 20
+imageNumber BadImage = 30

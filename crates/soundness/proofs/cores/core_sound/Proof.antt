@@ -1,0 +1,48 @@
+-- `soundness::cores::core_sound` meets its contract: the clauses, each as its function gives it.
+use borrow.Author.Needs.{needs}
+use Rattle.soundness.specs.Sound.{coreSound}
+use Rattle.parts.proofs.Bools.{both}
+use Rattle.soundness.proofs.cores.core_sound.Statement.{statement}
+use Rattle.soundness.proofs.cores.core_sound.Tie as tie
+
+mul-c : tie.Need-mul-c
+mul-c c = search needs
+
+array-copy-out-c : tie.Need-array-copy-out-c
+array-copy-out-c c = search needs
+
+within-requires : tie.Need-within-requires
+within-requires c κs = search needs
+
+idle-blank-requires : tie.Need-idle-blank-requires
+idle-blank-requires c κs = search needs
+
+named-requires : tie.Need-named-requires
+named-requires c κs = search needs
+
+recent-requires : tie.Need-recent-requires
+recent-requires c κs = search needs
+
+apart-requires : tie.Need-apart-requires
+apart-requires c κs = search needs
+
+carries-requires : tie.Need-carries-requires
+carries-requires c κs = search needs
+
+returns : tie.Need-returns
+unfolding coreSound
+returns c = search (both, needs)
+
+pub core-sound-spec : {M : Type 1} → statement M
+core-sound-spec =
+    tie.close
+    (tie.spec
+    mul-c
+    array-copy-out-c
+    within-requires
+    idle-blank-requires
+    named-requires
+    recent-requires
+    apart-requires
+    carries-requires
+    returns)

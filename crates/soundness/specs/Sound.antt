@@ -1,0 +1,64 @@
+-- "Sound. A table is sound when: .." The clauses that speak of its cores, in the paragraph's order and words.
+use Prim.Native.Nat.{ℕ, _+_}
+use mathlib.Core.Bool.{Bool, cond, _&&_, _||_, not}
+use mathlib.Core.List.{List}
+use lib.Dec.{leb, ltb, eqb}
+use lib.ListN.{getD}
+use Rattle.ticket.specs.Order.{half, behind, older}
+use Rattle.ticket.specs.declared.kinds.Ticket.{Ticket}
+use Rattle.parts.specs.Fold.{every, some}
+use Rattle.parts.specs.State.{isIdle, twoStage, unserved}
+use Rattle.parts.specs.Parts.{cores, idle}
+use Rattle.parts.specs.declared.kinds.Core.{Core}
+use Rattle.parts.specs.declared.kinds.Counts.{Counts}
+
+-- "everything past them is blank": a core past the count is idle
+abbrev pub within : Counts → ℕ → Core → Bool
+within n k c = ltb k (n .cores) || isIdle (c .state)
+
+-- "an idle core has ticket 0"
+abbrev pub idleBlank : Core → Bool
+idleBlank c = not (isIdle (c .state)) || (eqb (c .own .0) 0 && eqb (c .first .0) 0)
+
+-- "every unit a core names is in the table"; "a held or awaited second is of the second class, and its first of the first class"
+abbrev pub names : Counts → Core → Bool → Bool
+names n c two =
+    cond two
+    (ltb (c .first .0) (n .first) && leb (n .first) (c .second .0) && ltb (c .second .0) (n .first + n .second))
+    (ltb (c .first .0) (n .first + n .second))
+
+abbrev pub named : Counts → Core → Bool
+named n c = isIdle (c .state) || names n c (twoStage (c .state))
+
+-- "each lies 1 to 32,768 behind the counter"
+abbrev pub recent : Ticket → Core → Bool
+recent m c = isIdle (c .state) || (leb 1 (behind (m .0) (c .own .0)) && leb (behind (m .0) (c .own .0)) half)
+
+-- "own tickets differ pairwise": core k, which is c, and core j, which is d
+abbrev pub differ : ℕ → Core → ℕ → Core → Bool
+differ k c j d = eqb k j || isIdle (c .state) || isIdle (d .state) || not (eqb (c .own .0) (d .own .0))
+
+-- "a core waiting for or away from the unit this core holds first": c's carried ticket belongs to d
+abbrev pub lends : Core → Core → Bool
+lends c d = unserved (d .state) && eqb (d .first .0) (c .first .0) && eqb (d .own .0) (c .carried .0)
+
+-- "a carried ticket that isn't the own one belongs to .., reads older than the own, and occurs only while a second unit is awaited or
+-- held"; what a core without a second unit does not speak of is blank
+abbrev pub inherits : List Core → Core → Bool
+inherits all c = some (λ (j : ℕ). lends c (getD all j idle)) cores && older (c .carried .0) (c .own .0)
+
+abbrev pub carries : List Core → Core → Bool
+carries all c =
+    cond (twoStage (c .state)) (eqb (c .carried .0) (c .own .0) || inherits all c)
+    (eqb (c .carried .0) (c .own .0) && eqb (c .second .0) 0)
+
+-- the clauses of core k
+unfoldable pub coreSound : Counts → Ticket → List Core → ℕ → Bool
+coreSound n m all k =
+    let c = getD all k idle in
+    within n k c &&
+    idleBlank c &&
+    named n c &&
+    recent m c &&
+    every (λ (j : ℕ). differ k c j (getD all j idle)) cores &&
+    carries all c

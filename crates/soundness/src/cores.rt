@@ -1,0 +1,162 @@
+// The clauses of the cores: of any counts, counter and cores whatsoever.
+use crate::state::unserved;
+use parts::CORES;
+use parts::Core;
+use parts::Counts;
+use parts::is_idle;
+use parts::two_stage;
+use ticket::Ticket;
+use ticket::behind;
+use ticket::older;
+ghost use mathlib.Core.Path.{_≡_};
+ghost use Prim.Native.Nat.{_<_};
+ghost use lib.ListN.{getD};
+ghost use Rattle.parts.specs.Fold.{every, some};
+ghost use Rattle.parts.specs.Parts.{cores, idle};
+ghost use Rattle.soundness.specs.Sound.{coreSound, within, idleBlank, named, names, recent, differ, carries, lends};
+
+// Whether every core is sound.
+pub fn cores_sound(counts: Counts, counter: Ticket, all: [Core; CORES]) -> bool
+    ensures { λ r. ⌜ r ≡ every (coreSound counts counter all) cores ⌝ }
+{
+    let mut ok = true;
+    let mut k = 0;
+    while k < CORES {
+        ok = ok & core_sound(counts, counter, all, k);
+        k += 1;
+    }
+    ok
+}
+
+// The clauses of core k.
+fn core_sound(counts: Counts, counter: Ticket, all: [Core; CORES], k: usize) -> bool
+    requires { ⌜ k < cores ⌝ }
+    ensures { λ r. ⌜ r ≡ coreSound counts counter all k ⌝ }
+{
+    let c = all[k];
+    within(counts, k, c)
+        & idle_blank(c)
+        & named(counts, c)
+        & recent(counter, c)
+        & apart(all, k, c)
+        & carries(all, c)
+}
+
+// A core past the count is idle.
+fn within(counts: Counts, k: usize, c: Core) -> bool
+    ensures { λ r. ⌜ r ≡ within counts k c ⌝ }
+{
+    let s = c.state;
+    let n = counts.cores as usize;
+    (k < n) | is_idle(s)
+}
+
+// An idle core has ticket 0, and names no unit.
+fn idle_blank(c: Core) -> bool
+    ensures { λ r. ⌜ r ≡ idleBlank c ⌝ }
+{
+    let s = c.state;
+    let own = c.own;
+    let first = c.first;
+    !is_idle(s) | ((own.0 == 0) & (first.0 == 0))
+}
+
+// The units that a core names are in the table, and of the right classes.
+fn named(counts: Counts, c: Core) -> bool
+    ensures { λ r. ⌜ r ≡ named counts c ⌝ }
+{
+    let s = c.state;
+    is_idle(s) | names(counts, c, two_stage(s))
+}
+
+// The same of a core with a ticket, and with two units or one.
+fn names(counts: Counts, c: Core, two: bool) -> bool
+    ensures { λ r. ⌜ r ≡ names counts c two ⌝ }
+{
+    let a = c.first.0 as u32;
+    let b = c.second.0 as u32;
+    let first = counts.first as u32;
+    let all = first + counts.second as u32;
+    if two {
+        (a < first) & (first <= b) & (b < all)
+    } else {
+        a < all
+    }
+}
+
+// The own ticket lies 1 to 32,768 behind the counter.
+fn recent(counter: Ticket, c: Core) -> bool
+    ensures { λ r. ⌜ r ≡ recent counter c ⌝ }
+{
+    let s = c.state;
+    let own = c.own;
+    let d = behind(counter, own);
+    is_idle(s) | ((1 <= d) & (d <= 32768))
+}
+
+// No other core has the ticket of core k, which is c.
+fn apart(all: [Core; CORES], k: usize, c: Core) -> bool
+    ensures { λ r. ⌜ r ≡ every (λ j. differ k c j (getD all j idle)) cores ⌝ }
+{
+    let mut ok = true;
+    let mut j = 0;
+    while j < CORES {
+        let d = all[j];
+        ok = ok & differ(k, c, j, d);
+        j += 1;
+    }
+    ok
+}
+
+// Cores k and j, which are c and d, are the same, or one of them has no ticket, or their tickets differ.
+fn differ(k: usize, c: Core, j: usize, d: Core) -> bool
+    ensures { λ r. ⌜ r ≡ differ k c j d ⌝ }
+{
+    let s = c.state;
+    let z = d.state;
+    let a = c.own;
+    let b = d.own;
+    (k == j) | is_idle(s) | is_idle(z) | !(a.0 == b.0)
+}
+
+// The carried ticket is the own one, or at the second stage an inherited one.
+fn carries(all: [Core; CORES], c: Core) -> bool
+    ensures { λ r. ⌜ r ≡ carries all c ⌝ }
+{
+    let s = c.state;
+    let own = c.own;
+    let carried = c.carried;
+    let second = c.second;
+    let same = carried.0 == own.0;
+    if two_stage(s) {
+        same | (lent(all, c) & older(carried, own))
+    } else {
+        same & (second.0 == 0)
+    }
+}
+
+// Some core waits for or is away from c's first unit, with c's carried ticket for its own.
+fn lent(all: [Core; CORES], c: Core) -> bool
+    ensures { λ r. ⌜ r ≡ some (λ j. lends c (getD all j idle)) cores ⌝ }
+{
+    let mut any = false;
+    let mut j = 0;
+    while j < CORES {
+        let d = all[j];
+        any = any | lends(c, d);
+        j += 1;
+    }
+    any
+}
+
+// c's carried ticket belongs to d, which waits for or is away from c's first unit.
+fn lends(c: Core, d: Core) -> bool
+    ensures { λ r. ⌜ r ≡ lends c d ⌝ }
+{
+    let s = d.state;
+    let own = d.own;
+    let carried = c.carried;
+    let a = d.first;
+    let b = c.first;
+    unserved(s) & (a.0 == b.0) & (own.0 == carried.0)
+}
