@@ -33,10 +33,29 @@ def registers(shown):
     return b"".join(register(*shown.get((u, k), (0, 0, 0))) for u in range(16) for k in range(8))
 
 
-def table(counts, counter, cores, shown, sound):
+def whole(counts, counter, cores, shown):
     head = struct.pack("<4H", *counts, counter)
     body = b"".join(struct.pack("<4HB", *cores.get(k, (0, 0, 0, 0, 0))) for k in range(8))
-    add(b"S" + head + body + registers(shown), b"S\t%d\n" % sound)
+    return head + body + registers(shown)
+
+
+def table(counts, counter, cores, shown, sound):
+    add(b"S" + whole(counts, counter, cores, shown), b"S\t%d\n" % sound)
+
+
+def method(before, step, answer, after=None):
+    """A step by its letter, or the letter's number, on a table, which it leaves as it was where no other is given."""
+    letter, core, unit = (step.split() + ["0"])[:3]
+    number = "RNPICL".index(letter) if letter in "RNPICL" else int(letter)
+    counts, counter, cores, shown = after or before
+    fields = [*map(int, answer.split()), *counts, counter]
+    for k in range(8):
+        fields += cores.get(k, (0, 0, 0, 0, 0))
+    for u in range(16):
+        for k in range(8):
+            fields += shown.get((u, k), (0, 0, 0))
+    case = b"M" + whole(*before) + struct.pack("<BHH", number, int(core), int(unit))
+    add(case, b"M" + b"".join(b"\t%d" % n for n in fields) + b"\n")
 
 
 def reading(counts, words, answer):
@@ -58,6 +77,66 @@ table((9, 1, 1), 0, {}, {}, 0)
 # core 0 holds unit 0 and waits at unit 1, which core 1 holds; core 2 away
 table((3, 1, 1), 8, {0: (5, 5, 0, 1, 3), 1: (6, 6, 1, 0, 2), 2: (7, 7, 0, 0, 5)}, {(0, 0): (5, 1, 1), (1, 0): (5, 1, 0), (1, 1): (6, 7, 2)}, 1)
 table((3, 1, 1), 8, {0: (5, 5, 0, 1, 4), 1: (6, 6, 1, 0, 2), 2: (7, 7, 0, 0, 5)}, {(0, 0): (5, 1, 1), (1, 0): (5, 1, 0), (1, 1): (6, 1, 1)}, 0)
+# document 01's run, step by step. A core: own and carried ticket, first and second unit, state.
+IDLE, WAITING, HOLDING, WAITING_SECOND, HOLDING_BOTH, AWAY = range(6)
+now = ((3, 1, 1), 65535, {}, {})
+zero, one, two = (65535, 65535, 1, 0, HOLDING), (1, 1, 0, 0, HOLDING), (0, 0, 0, 0, WAITING)
+held = {(1, 0): (65535, 1, 1)}
+for step, answer, counter, cores, shown in [
+    ("R 0 1", "0 65535 1 1 0", 0, {0: (65535, 65535, 1, 0, WAITING)}, held),
+    ("P 0", "1 65535 0", 0, {0: zero}, held),
+    ("R 2 0", "0 0 1 0 2", 1, {0: zero, 2: two}, {**held, (0, 2): (0, 1, 1)}),
+    ("R 1 0", "0 1 0", 2, {0: zero, 1: (1, 1, 0, 0, WAITING), 2: two}, {**held, (0, 1): (1, 1, 0), (0, 2): (0, 1, 1)}),
+    ("I 2", "0 0 1 0 1", 2, {0: zero, 1: (1, 1, 0, 0, WAITING), 2: (0, 0, 0, 0, AWAY)}, {**held, (0, 1): (1, 1, 1)}),
+    ("P 1", "1 1 0", 2, {0: zero, 1: one, 2: (0, 0, 0, 0, AWAY)}, {**held, (0, 1): (1, 1, 1)}),
+    ("N 1 1", "0 1 0", 2, {0: zero, 1: (1, 1, 0, 1, WAITING_SECOND), 2: (0, 0, 0, 0, AWAY)}, {**held, (0, 1): (1, 1, 1), (1, 1): (1, 1, 0)}),
+    ("C 2", "0 0 0", 2, {0: zero, 1: (1, 1, 0, 1, WAITING_SECOND), 2: two}, {**held, (0, 1): (1, 1, 1), (1, 1): (1, 1, 0), (0, 2): (0, 1, 0)}),
+    ("P 1", "2 0 0", 2, {0: zero, 1: (1, 0, 0, 1, WAITING_SECOND), 2: two}, {**held, (0, 1): (1, 1, 1), (1, 1): (0, 1, 0), (0, 2): (0, 1, 0)}),
+    ("I 0", "14 0 0", 2, {0: zero, 1: (1, 0, 0, 1, WAITING_SECOND), 2: two}, {**held, (0, 1): (1, 1, 1), (1, 1): (0, 1, 0), (0, 2): (0, 1, 0)}),
+    ("L 0", "0 65535 1 1 1", 2, {1: (1, 0, 0, 1, WAITING_SECOND), 2: two}, {(0, 1): (1, 1, 1), (1, 1): (0, 1, 1), (0, 2): (0, 1, 0)}),
+    ("P 1", "1 0 0", 2, {1: (1, 0, 0, 1, HOLDING_BOTH), 2: two}, {(0, 1): (1, 1, 1), (1, 1): (0, 1, 1), (0, 2): (0, 1, 0)}),
+    ("L 1", "0 1 1 0 2", 2, {2: two}, {(0, 2): (0, 1, 1)}),
+]:
+    if step == "L 0":
+        # an interrupt drops the inherited ticket, and a core that waits cannot release
+        method(now, "I 1", "0 1 1 0 2", ((3, 1, 1), 2, {0: zero, 1: (1, 1, 0, 0, AWAY), 2: two}, {**held, (0, 2): (0, 1, 1)}))
+        method(now, "L 1", "12 0 0")
+        method(now, "C 1", "12 0 0")
+    then = ((3, 1, 1), counter, cores, shown)
+    method(now, step, answer, then)
+    now = then
+fresh = ((1, 1, 0), 7, {}, {})
+method(fresh, "R 0 0", "0 7 1 0 0", ((1, 1, 0), 8, {0: (7, 7, 0, 0, WAITING)}, {(0, 0): (7, 1, 1)}))
+method(fresh, "P 0", "12 0 0")
+method(fresh, "R 1 1", "10 0 0")
+method(fresh, "R 65535 0", "10 0 0")
+method(fresh, "R 0 1", "11 0 0")
+method(fresh, "N 0 1", "11 0 0")
+method(fresh, "L 256 0", "10 0 0")
+# core 0 holds unit 0 and core 1 unit 2, of the first and of the second class
+holding = ((3, 2, 2), 3, {0: (1, 1, 0, 0, HOLDING), 1: (2, 2, 2, 0, HOLDING)}, {(0, 0): (1, 1, 1), (2, 1): (2, 1, 1)})
+method(holding, "N 0 1", "13 0 0")
+method(holding, "N 1 3", "13 0 0")
+method(holding, "N 0 4", "11 0 0")
+method(holding, "N 2 3", "12 0 0")
+method(holding, "R 0 1", "12 0 0")
+cores = {0: (1, 1, 0, 3, WAITING_SECOND), 1: (2, 2, 2, 0, HOLDING)}
+method(holding, "N 0 3", "0 1 1 3 0", ((3, 2, 2), 3, cores, {(0, 0): (1, 1, 1), (3, 0): (1, 1, 1), (2, 1): (2, 1, 1)}))
+# ticket 0 is live
+live = {0: (0, 0, 0, 0, HOLDING)}
+method(((2, 2, 0), 32768, live, {(0, 0): (0, 1, 1)}), "R 1 1", "15 0 0")
+then = ((2, 2, 0), 32768, {**live, 1: (32767, 32767, 1, 0, WAITING)}, {(0, 0): (0, 1, 1), (1, 1): (32767, 1, 1)})
+method(((2, 2, 0), 32767, live, {(0, 0): (0, 1, 1)}), "R 1 1", "0 32767 1 1 1", then)
+# 16 before all others; the table's numbers come back as they were
+method(((3, 1, 1), 65535, {}, {(1, 2): (0, 0, 1)}), "R 0 0", "16 0 0")
+method(((9, 65535, 1), 12, {7: (1, 2, 3, 65535, AWAY)}, {(15, 7): (65535, 1, 1)}), "P 9", "16 0 0")
+# one release grants both its units; numbers from 5 on are L
+waiting = {1: (6, 6, 0, 0, WAITING), 2: (7, 7, 1, 0, WAITING)}
+shown = {(0, 0): (5, 1, 1), (1, 0): (5, 1, 1), (0, 1): (6, 1, 0), (1, 2): (7, 1, 0)}
+both = ((3, 1, 1), 8, {**waiting, 0: (5, 5, 0, 1, HOLDING_BOTH)}, shown)
+for step in ["L 0", "6 0", "255 0 9"]:
+    method(both, step, "0 5 2 0 1 1 2", ((3, 1, 1), 8, waiting, {(0, 1): (6, 1, 1), (1, 2): (7, 1, 1)}))
+method(both, "I 0", "14 0 0")
 for w, a in [(65536, "0\t0\t1\t0"), (262143, "0\t65535\t1\t1"), (131072, "30"), (5, "30"), (262144, "30"), (0, "0\t0\t0\t0"), (4294967295, "30")]:
     add(b"W" + struct.pack("<I", w), b"W\t%s\n" % a.encode())
 for r, a in [((0, 1, 0), "0\t65536"), ((65535, 1, 1), "0\t262143"), ((0, 0, 1), "30"), ((5, 0, 0), "30"), ((0, 0, 0), "0\t0"), ((258, 255, 0), "0\t65794")]:

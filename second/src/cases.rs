@@ -2,7 +2,10 @@
 //!
 //! A case is a letter and its payload, numbers little endian:
 //! - `T`: u16 length, script. Answer: the translator's bytes, then a line `--`.
-//! - `S`: a table of 592 bytes (see `put_table`). Answer: `S`, 1 if sound else 0.
+//! - `S`: a table of 592 bytes (see `put_whole`). Answer: `S`, 1 if sound else 0.
+//! - `M`: a table as in `S`, u8 letter (0 R, 1 N, 2 P, 3 I, 4 C, from 5 on L), u16
+//!   core, u16 unit. Answer: `M`, answer, ticket, number of grants, unit and core
+//!   of each, and every number of the next table in the order of `put_whole`.
 //! - `W`: u32 word. Answer: `W`, 30, or `W`, 0, ticket, valid, flag.
 //! - `P`: a register. Answer: `P`, 30, or `P`, 0, word.
 //! - `I`: u16 cores, first, second, n; n words. Answer: `I`, 20 or 30, or `I`, 0
@@ -15,7 +18,7 @@
 use std::io::{self, BufReader, BufWriter, ErrorKind, Read, Write};
 
 use crate::script::put_field;
-use crate::table::{Core, Register, State, Table, Unit, MAX_CORES, MAX_UNITS};
+use crate::table::{Core, Kind, Outcome, Register, State, Step, Table, Unit, MAX_CORES, MAX_UNITS};
 use crate::translate::translate;
 use crate::words;
 
@@ -23,6 +26,15 @@ use crate::words;
 pub const WORDS_MAX: usize = 200;
 const REGISTERS: usize = MAX_UNITS * MAX_CORES * 4;
 pub const TABLE: usize = 8 + MAX_CORES * 9 + REGISTERS;
+/// The letters' order in a case `M`.
+pub const KINDS: [Kind; 6] = [
+    Kind::Request,
+    Kind::Nest,
+    Kind::Poll,
+    Kind::Interrupt,
+    Kind::Continue,
+    Kind::Leave,
+];
 
 fn put_u16(case: &mut Vec<u8>, number: u16) {
     case.extend_from_slice(&number.to_le_bytes());
@@ -44,8 +56,7 @@ pub fn put_script(case: &mut Vec<u8>, script: &[u8]) {
     case.extend_from_slice(script);
 }
 
-pub fn put_table(case: &mut Vec<u8>, table: &Table) {
-    case.push(b'S');
+fn put_whole(case: &mut Vec<u8>, table: &Table) {
     for number in [
         table.cores,
         table.first_class,
@@ -63,6 +74,20 @@ pub fn put_table(case: &mut Vec<u8>, table: &Table) {
     for register in table.unit.iter().flatten() {
         put_register(case, register);
     }
+}
+
+pub fn put_table(case: &mut Vec<u8>, table: &Table) {
+    case.push(b'S');
+    put_whole(case, table);
+}
+
+pub fn put_method(case: &mut Vec<u8>, table: &Table, step: Step) {
+    case.push(b'M');
+    put_whole(case, table);
+    let letter = KINDS.iter().position(|kind| *kind == step.kind);
+    case.push(letter.expect("all kinds are listed") as u8);
+    put_u16(case, step.core);
+    put_u16(case, step.unit);
 }
 
 pub fn put_word(case: &mut Vec<u8>, word: u32) {
@@ -131,8 +156,7 @@ impl Payload<'_> {
         units
     }
 
-    /// None for a byte that names no state.
-    fn table(&mut self) -> Option<Table> {
+    fn table(&mut self) -> Table {
         let mut table = Table {
             cores: self.u16(),
             first_class: self.u16(),
@@ -153,13 +177,20 @@ impl Payload<'_> {
                     2 => State::Holding,
                     3 => State::WaitingSecond,
                     4 => State::HoldingBoth,
-                    5 => State::Away,
-                    _ => return None,
+                    _ => State::Away,
                 },
             };
         }
         table.unit = self.units();
-        Some(table)
+        table
+    }
+
+    fn step(&mut self) -> Step {
+        Step {
+            kind: KINDS[(self.byte() as usize).min(5)],
+            core: self.u16(),
+            unit: self.u16(),
+        }
     }
 }
 
@@ -172,6 +203,32 @@ fn put_fields(out: &mut Vec<u8>, register: &Register) {
     put_field(out, register.ticket as u32);
     put_field(out, register.valid as u32);
     put_field(out, register.flag as u32);
+}
+
+fn put_outcome(out: &mut Vec<u8>, outcome: &Outcome) {
+    put_field(out, outcome.answer as u32);
+    put_field(out, outcome.ticket as u32);
+    put_field(out, outcome.granted as u32);
+    for (unit, core) in &outcome.grants[..outcome.granted] {
+        put_field(out, *unit as u32);
+        put_field(out, *core as u32);
+    }
+}
+
+fn put_numbers(out: &mut Vec<u8>, table: &Table) {
+    put_field(out, table.cores as u32);
+    put_field(out, table.first_class as u32);
+    put_field(out, table.second_class as u32);
+    put_field(out, table.counter as u32);
+    for core in &table.core {
+        for number in [core.own, core.carried, core.first, core.second] {
+            put_field(out, number as u32);
+        }
+        put_field(out, core.state as u32);
+    }
+    for register in table.unit.iter().flatten() {
+        put_fields(out, register);
+    }
 }
 
 /// Reads one case and puts its answer; false when its letter is unknown.
@@ -193,8 +250,17 @@ fn answer<R: Read>(input: &mut R, payload: &mut Vec<u8>, out: &mut Vec<u8>) -> i
         }
         b'S' => {
             read(payload, TABLE)?;
-            let sound = Payload(payload).table().is_some_and(|table| table.sound());
+            let sound = Payload(payload).table().sound();
             put_answer(out, letter, sound as u8);
+        }
+        b'M' => {
+            read(payload, TABLE + 5)?;
+            let mut fields = Payload(payload);
+            let mut table = fields.table();
+            let outcome = table.step_any(fields.step());
+            out.push(letter);
+            put_outcome(out, &outcome);
+            put_numbers(out, &table);
         }
         b'W' => {
             read(payload, 4)?;
@@ -287,26 +353,29 @@ pub fn described(case: &[u8]) -> String {
     for byte in &case[1..] {
         text += &format!(" {byte:02x}");
     }
-    if case[0] == b'S' {
-        if let Some(table) = Payload(&case[1..]).table() {
-            let Table {
-                cores,
-                first_class,
-                second_class,
-                counter,
-                ..
-            } = table;
-            text += &format!("\ncounts {cores} {first_class} {second_class}, counter {counter}");
-            for (c, core) in table.core.iter().enumerate() {
-                text += &format!("\ncore {c}: {core:?}");
-            }
-            for (u, unit) in table.unit.iter().enumerate() {
-                for (c, register) in unit.iter().enumerate() {
-                    if *register != Register::default() {
-                        text += &format!("\nunit {u} core {c}: {register:?}");
-                    }
+    if matches!(case[0], b'S' | b'M') {
+        let mut fields = Payload(&case[1..]);
+        let table = fields.table();
+        let Table {
+            cores,
+            first_class,
+            second_class,
+            counter,
+            ..
+        } = table;
+        text += &format!("\ncounts {cores} {first_class} {second_class}, counter {counter}");
+        for (c, core) in table.core.iter().enumerate() {
+            text += &format!("\ncore {c}: {core:?}");
+        }
+        for (u, unit) in table.unit.iter().enumerate() {
+            for (c, register) in unit.iter().enumerate() {
+                if *register != Register::default() {
+                    text += &format!("\nunit {u} core {c}: {register:?}");
                 }
             }
+        }
+        if case[0] == b'M' {
+            text += &format!("\n{:?}", fields.step());
         }
     }
     text
@@ -360,5 +429,30 @@ mod tests {
              O\t0\t0\t0\t0\t0\nO\t30\nO\t20\n"
         );
         assert_eq!(TABLE, 592);
+    }
+
+    /// A table's line has 8 x 5 numbers of cores and 128 x 3 of registers.
+    #[test]
+    fn steps_by_methods() {
+        let answered = |table: &Table, kind, core, unit| {
+            let (mut case, mut out) = (Vec::new(), Vec::new());
+            put_method(&mut case, table, Step { kind, core, unit });
+            assert_eq!(case.len(), 598);
+            answer_to(&case, &mut out);
+            String::from_utf8(out).unwrap()
+        };
+        let zeros = |count| "\t0".repeat(count);
+        let table = Table::fresh(2, 1, 1, 5).unwrap();
+        let mut expected = "M\t0\t5\t1\t1\t1\t2\t1\t1\t6".to_string();
+        expected += &(zeros(5) + "\t5\t5\t1\t0\t1" + &zeros(30));
+        expected += &(zeros(27) + "\t5\t1\t1" + &zeros(354) + "\n");
+        assert_eq!(answered(&table, Kind::Request, 1, 1), expected);
+        let expected = "M\t12\t0\t0\t2\t1\t1\t5".to_string() + &zeros(424) + "\n";
+        assert_eq!(answered(&table, Kind::Leave, 0, 9), expected);
+        let mut broken = table;
+        broken.core[1].second = 1;
+        let mut expected = "M\t16\t0\t0\t2\t1\t1\t5".to_string();
+        expected += &(zeros(5) + "\t0\t0\t0\t1\t0" + &zeros(414) + "\n");
+        assert_eq!(answered(&broken, Kind::Poll, 9, 9), expected);
     }
 }

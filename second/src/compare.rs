@@ -27,8 +27,10 @@ pub struct Options {
     pub damaged: u64,
     /// Damaged scripts with a process of their own.
     pub singles: u64,
-    /// Cases that are no scripts.
+    /// Soundness, word and image cases.
     pub others: u64,
+    /// Steps by the table's methods.
+    pub methods: u64,
     pub jobs: usize,
     pub shrink_seconds: u64,
     /// Seconds a program may take for one batch.
@@ -42,8 +44,12 @@ const LONG_SCRIPT: u64 = 150_000;
 const DAMAGED_BATCH: u64 = 5_000;
 const SINGLES_BATCH: u64 = 25;
 const OTHERS_BATCH: u64 = 5_000;
+const METHODS_BATCH: u64 = 5_000;
 /// The answers a run of a million steps or more has to meet.
 const NUMBERS: [u32; 13] = [0, 1, 2, 10, 11, 12, 13, 14, 15, 20, 21, 22, 24];
+/// The answers so many steps by methods have to meet.
+const METHOD_NUMBERS: [u32; 10] = [0, 1, 2, 10, 11, 12, 13, 14, 15, 16];
+const METHODS_ENOUGH: u64 = 20_000;
 const LETTERS: &[u8; 6] = b"RNPICL";
 
 /// Work whose content follows from the seed and its place in the plan alone.
@@ -70,6 +76,10 @@ enum Batch {
         count: u64,
     },
     Others {
+        stream: u64,
+        count: u64,
+    },
+    Methods {
         stream: u64,
         count: u64,
     },
@@ -159,6 +169,9 @@ fn plan(options: &Options) -> Vec<Batch> {
     pieces(options.others, OTHERS_BATCH, &|stream, _, count| {
         Batch::Others { stream, count }
     });
+    pieces(options.methods, METHODS_BATCH, &|stream, _, count| {
+        Batch::Methods { stream, count }
+    });
     plan
 }
 
@@ -173,6 +186,10 @@ struct Tally {
     numbers: BTreeMap<u32, u64>,
     others: BTreeMap<u8, u64>,
     sound: u64,
+    /// Steps by methods: their letters, their answers, those with two grants.
+    methods: BTreeMap<u8, u64>,
+    method_numbers: BTreeMap<u32, u64>,
+    method_two_grants: u64,
     /// Counts in headers of scripts that were begun.
     headers: BTreeMap<Vec<u8>, u64>,
     kinds: BTreeMap<String, u64>,
@@ -192,10 +209,13 @@ impl Tally {
         self.singles += other.singles;
         self.steps += other.steps;
         self.sound += other.sound;
+        self.method_two_grants += other.method_two_grants;
         self.seen.add(&other.seen);
         add_all(&mut self.letters, other.letters);
         add_all(&mut self.numbers, other.numbers);
         add_all(&mut self.others, other.others);
+        add_all(&mut self.methods, other.methods);
+        add_all(&mut self.method_numbers, other.method_numbers);
         add_all(&mut self.headers, other.headers);
         add_all(&mut self.kinds, other.kinds);
     }
@@ -231,6 +251,15 @@ impl Tally {
         for letter in LETTERS {
             *self.letters.entry(*letter).or_default() += letters[*letter as usize];
         }
+    }
+
+    /// Counts a step by a method by its answer: number, ticket, number of grants.
+    fn count_method(&mut self, answer: &[u8]) {
+        let mut fields = answer.split(|b| *b == b'\t').skip(1);
+        let number = fields.next().unwrap_or_default();
+        let number = number.iter().fold(0, |n, b| n * 10 + (b - b'0') as u32);
+        *self.method_numbers.entry(number).or_default() += 1;
+        self.method_two_grants += (fields.nth(1) == Some(b"2")) as u64;
     }
 }
 
@@ -434,6 +463,18 @@ impl Comparison<'_> {
                     *tally.others.entry(letter).or_default() += 1;
                     let answer = cases.close();
                     tally.sound += (answer == b"S\t1\n") as u64;
+                }
+                self.many(batch, cases)
+            }
+            Batch::Methods { stream, count } => {
+                let mut rng = Rng::new(seed, stream);
+                let mut cases = Cases::default();
+                for _ in 0..count {
+                    let step = tables::put_method(&mut rng, &mut cases.input);
+                    let letter = cases::KINDS.iter().position(|kind| *kind == step.kind);
+                    let letter = LETTERS[letter.expect("all kinds are listed")];
+                    *tally.methods.entry(letter).or_default() += 1;
+                    tally.count_method(cases.close());
                 }
                 self.many(batch, cases)
             }
@@ -896,6 +937,12 @@ pub fn compare(options: &Options) -> i32 {
         listed(&tally.others, |letter| (*letter as char).to_string()),
         tally.sound
     );
+    println!(
+        "steps by method: {}; answers {}; two grants {}",
+        listed(&tally.methods, |letter| (*letter as char).to_string()),
+        listed(&tally.method_numbers, |number| format!("{number}:")),
+        tally.method_two_grants
+    );
     let missing: Vec<String> = NUMBERS
         .iter()
         .filter(|number| !tally.numbers.contains_key(number))
@@ -908,14 +955,22 @@ pub fn compare(options: &Options) -> i32 {
             return 1;
         }
     }
+    let unmet = METHOD_NUMBERS
+        .iter()
+        .any(|number| !tally.method_numbers.contains_key(number));
+    if unmet && options.methods >= METHODS_ENOUGH {
+        println!("so many steps by methods have to meet every answer");
+        return 1;
+    }
     println!(
         "no difference: {} scripts, {} steps, {} damaged scripts ({} with a process of their own), \
-         {} table, word and image cases, seed {}, {:.1} seconds",
+         {} table, word and image cases, {} steps by methods, seed {}, {:.1} seconds",
         tally.scripts,
         tally.steps,
         tally.damaged,
         tally.singles,
         tally.others.values().sum::<u64>(),
+        tally.methods.values().sum::<u64>(),
         options.seed,
         began.elapsed().as_secs_f64(),
     );

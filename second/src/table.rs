@@ -139,6 +139,14 @@ impl Table {
         }
     }
 
+    /// Makes the step on any table: 16 where it is not sound.
+    pub fn step_any(&mut self, step: Step) -> Outcome {
+        if !self.sound() {
+            return Outcome::refused(16);
+        }
+        self.step(step)
+    }
+
     fn request(&mut self, c: usize, unit: u16) -> Outcome {
         if unit >= self.units() {
             return Outcome::refused(11);

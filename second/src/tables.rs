@@ -1,9 +1,10 @@
-//! Cases that are no scripts: sound and broken tables, words, registers, images.
+//! Cases that are no scripts: sound and broken tables, steps on them, words,
+//! registers, images.
 
 use crate::cases;
 use crate::make::{any_counts, edge_counter, Maker};
 use crate::rng::Rng;
-use crate::table::{older, Core, Register, State, Table, Unit, MAX_CORES, MAX_UNITS};
+use crate::table::{older, Core, Kind, Register, State, Step, Table, Unit, MAX_CORES, MAX_UNITS};
 
 const STATES: [State; 6] = [
     State::Idle,
@@ -581,7 +582,47 @@ fn extent(rng: &mut Rng) -> ([u16; 3], u16) {
     (counts, number.min(cases::WORDS_MAX as u64) as u16)
 }
 
-/// Puts one case of any letter but `T`, and gives its letter.
+/// A number of `count` cores or units, or one past them.
+fn any_number(rng: &mut Rng, count: u16) -> u16 {
+    match rng.below(16) {
+        0 => count,
+        1 => count.wrapping_add(rng.below(3) as u16),
+        2 => rng.pick(&[7, 8, 15, 16, 255, 256, 32_768, 65_535]),
+        3 if rng.chance(30) => rng.draw() as u16,
+        _ => rng.below(count as u64) as u16,
+    }
+}
+
+/// A step, mostly of a letter that the core's state allows or half allows.
+fn any_step(rng: &mut Rng, table: &Table) -> Step {
+    let core = any_number(rng, table.cores);
+    let unit = any_number(rng, table.first_class.wrapping_add(table.second_class));
+    let kind = match table.core.get(core as usize) {
+        Some(core) if rng.chance(70) => match core.state {
+            State::Idle => Kind::Request,
+            State::Waiting | State::WaitingSecond => rng.pick(&[Kind::Poll, Kind::Interrupt]),
+            State::Holding => rng.pick(&[Kind::Nest, Kind::Nest, Kind::Leave, Kind::Interrupt]),
+            State::HoldingBoth => rng.pick(&[Kind::Leave, Kind::Leave, Kind::Interrupt]),
+            State::Away => Kind::Continue,
+        },
+        _ => rng.pick(&cases::KINDS),
+    };
+    Step { kind, core, unit }
+}
+
+/// Puts one case of `M`, and gives its step. Four tables in five are sound.
+pub fn put_method(rng: &mut Rng, case: &mut Vec<u8>) -> Step {
+    let table = match rng.below(12) {
+        0..=3 => reached(rng),
+        4..=8 => built(rng),
+        _ => any_table(rng),
+    };
+    let step = any_step(rng, &table);
+    cases::put_method(case, &table, step);
+    step
+}
+
+/// Puts one case of any letter but `T` and `M`, and gives its letter.
 pub fn put_any(rng: &mut Rng, case: &mut Vec<u8>) -> u8 {
     match rng.below(10) {
         0..=4 => {

@@ -1,33 +1,23 @@
 -- Reading a table after a change: at the changed core or register the new one stands, and everywhere else what stood there.
 use Prim.Native.Nat.{ℕ, _<_}
-use mathlib.Core.Bool.{Bool, true, false}
 use mathlib.Core.Logic.{_⊎_, inl, inr, _≢_}
 use mathlib.Core.Path.{_≡_, refl, _∙_, ap}
-use lib.Dec.{eqb}
 use lib.ListN.{length, set, length-set}
 use lib.Seq.{getD-set-same, getD-set-other}
-use borrow.Author.Tests.{eqb-true, eqb-false}
 use Rattle.ticket.specs.declared.kinds.Ticket.{Ticket}
-use Rattle.parts.specs.Parts.{cores, units, blank, idle, noUnit, registerIn}
+use Rattle.parts.specs.Parts.{cores, units, blank, idle, absentUnit, registerIn}
 use Rattle.block.specs.Table.{coreOf, unitOf, registerOf, withUnit, withRegister, withCore, withCounter}
 use Rattle.parts.specs.declared.kinds.Register.{Register}
 use Rattle.parts.specs.declared.kinds.LockUnit.{LockUnit}
 use Rattle.parts.specs.declared.kinds.Core.{Core}
 use Rattle.block.specs.declared.table.Table.{Table}
+use Rattle.parts.proofs.Along.{same-or-not}
 
 -- the arrays have their lengths, as those of every table that a program holds
 pub record Shaped (t : Table) : Type 0 where
   pub cores-long : length (t .cores) ≡ cores
   pub units-long : length (t .units) ≡ units
   pub registers-long : (u : ℕ) → u < units → length (unitOf t u .registers) ≡ cores
-
--- two numbers are the same or not
-pub same-or-not : (i j : ℕ) → (i ≡ j) ⊎ (i ≢ j)
-same-or-not i j = go (eqb i j) refl
-  where
-    go : (b : Bool) → eqb i j ≡ b → (i ≡ j) ⊎ (i ≢ j)
-    go true e = inl (eqb-true i j e)
-    go false e = inr (eqb-false i j e)
 
 module _ (t : Table) where
   pub core-same : (k : ℕ) (c : Core) → Shaped t → k < cores → coreOf (withCore t k c) k ≡ c
@@ -37,10 +27,10 @@ module _ (t : Table) where
   core-other k j c d = getD-set-other (t .cores) k j c idle d
 
   pub unit-same : (u : ℕ) (x : LockUnit) → Shaped t → u < units → unitOf (withUnit t u x) u ≡ x
-  unit-same u x s h = getD-set-same (t .units) u x noUnit (rw (s .units-long) h)
+  unit-same u x s h = getD-set-same (t .units) u x absentUnit (rw (s .units-long) h)
 
   pub unit-other : (u v : ℕ) (x : LockUnit) → v ≢ u → unitOf (withUnit t u x) v ≡ unitOf t v
-  unit-other u v x d = getD-set-other (t .units) u v x noUnit d
+  unit-other u v x d = getD-set-other (t .units) u v x absentUnit d
 
   module _ (u k : ℕ) (r : Register) where
     abbrev new : LockUnit

@@ -4,11 +4,13 @@ use mathlib.Core.Bool.{Bool, true, false, _||_, not}
 use mathlib.Core.Logic.{_⊎_, inl, inr}
 use mathlib.Core.Path.{_≡_, refl}
 use borrow.Author.Tests.{leb-false, ltb-false, not-false}
+use Rattle.parts.specs.declared.answer.Step.the-variants.{R, N, P, I, C, L}
 use Rattle.ticket.specs.declared.kinds.CoreNo.{CoreNo}
 use Rattle.ticket.specs.declared.kinds.UnitNo.{UnitNo}
 use Rattle.parts.specs.State.{isIdle, waits, holds, holdsOne, isAway}
 use Rattle.block.specs.Table.{coreOf, unitCount}
-use Rattle.block.specs.Verdict.{noCore, noUnit, stateOf, wrongClass, stretched, mayRequest, mayNest, mayPoll, mayInterrupt, mayComeBack, mayRelease}
+use Rattle.block.specs.Steps.{verdict}
+use Rattle.refusals.specs.Judge.{noCore, noUnit, stretched, wrongClass}
 use Rattle.parts.specs.declared.kinds.State.{State}
 use Rattle.parts.specs.declared.kinds.State.the-variants.{Idle, Waiting, Holding, WaitingSecond, HoldingBoth, Away}
 use Rattle.block.specs.declared.table.Table.{Table}
@@ -21,7 +23,7 @@ or-not true b e = absurd (clash refl e)
 or-not false b e = (refl, e)
 
 -- the state from its test
-is-idle : (z : State) → isIdle z ≡ true → z ≡ Idle
+pub is-idle : (z : State) → isIdle z ≡ true → z ≡ Idle
 is-idle Idle e = refl
 is-idle Waiting e = absurd (clash e refl)
 is-idle Holding e = absurd (clash e refl)
@@ -65,70 +67,70 @@ module _ (t : Table) (k : CoreNo) where
   pub record Requesting (u : UnitNo) : Type 0 where
     pub within : k .0 < t .counts .cores
     pub unit : u .0 < unitCount t
-    pub state : stateOf t k ≡ Idle
-    pub close : stretched t ≡ false
+    pub state : coreOf t (k .0) .state ≡ Idle
+    pub close : stretched (t .counter) (t .cores) (t .counts .cores) ≡ false
 
   pub record Nesting (u : UnitNo) : Type 0 where
     pub within : k .0 < t .counts .cores
     pub unit : u .0 < unitCount t
-    pub state : stateOf t k ≡ Holding
+    pub state : coreOf t (k .0) .state ≡ Holding
     pub second : t .counts .first ≤ u .0
     pub first : coreOf t (k .0) .first .0 < t .counts .first
 
-  core-there : noCore t k ≡ false → k .0 < t .counts .cores
+  core-there : noCore (t .counts) k ≡ false → k .0 < t .counts .cores
   core-there e = leb-false (t .counts .cores) (k .0) e
 
-  unit-there : (u : UnitNo) → noUnit t u ≡ false → u .0 < unitCount t
+  unit-there : (u : UnitNo) → noUnit (t .counts) u ≡ false → u .0 < unitCount t
   unit-there u e = leb-false (unitCount t) (u .0) e
 
-  pub may-request : (u : UnitNo) → mayRequest t k u ≡ Allowed → Requesting u
+  pub may-request : (u : UnitNo) → verdict t (R k u) ≡ Allowed → Requesting u
   may-request u e =
-      let a = unless-not (noCore t k) _ _ e in
-      let b = unless-not (noUnit t u) _ _ (a .1) in
-      let c = unless-not (not (isIdle (stateOf t k))) _ _ (b .1) in
+      let a = unless-not (noCore (t .counts) k) _ _ e in
+      let b = unless-not (noUnit (t .counts) u) _ _ (a .1) in
+      let c = unless-not (not (isIdle (coreOf t (k .0) .state))) _ _ (b .1) in
       record {
         within = core-there (a .0);
         unit = unit-there u (b .0);
-        state = is-idle (stateOf t k) (not-false (isIdle (stateOf t k)) (c .0));
-        close = unless-not (stretched t) _ _ (c .1) .0;
+        state = is-idle (coreOf t (k .0) .state) (not-false (isIdle (coreOf t (k .0) .state)) (c .0));
+        close = unless-not (stretched (t .counter) (t .cores) (t .counts .cores)) _ _ (c .1) .0;
       }
 
-  pub may-nest : (u : UnitNo) → mayNest t k u ≡ Allowed → Nesting u
+  pub may-nest : (u : UnitNo) → verdict t (N k u) ≡ Allowed → Nesting u
   may-nest u e =
-      let a = unless-not (noCore t k) _ _ e in
-      let b = unless-not (noUnit t u) _ _ (a .1) in
-      let c = unless-not (not (holdsOne (stateOf t k))) _ _ (b .1) in
-      let d = or-not _ _ (unless-not (wrongClass t k u) _ _ (c .1) .0) in
+      let a = unless-not (noCore (t .counts) k) _ _ e in
+      let b = unless-not (noUnit (t .counts) u) _ _ (a .1) in
+      let c = unless-not (not (holdsOne (coreOf t (k .0) .state))) _ _ (b .1) in
+      let d = or-not _ _ (unless-not (wrongClass (t .counts) (coreOf t (k .0) .first) u) _ _ (c .1) .0) in
       record {
         within = core-there (a .0);
         unit = unit-there u (b .0);
-        state = is-holding (stateOf t k) (not-false (holdsOne (stateOf t k)) (c .0));
+        state = is-holding (coreOf t (k .0) .state) (not-false (holdsOne (coreOf t (k .0) .state)) (c .0));
         second = ltb-false (u .0) (t .counts .first) (d .0);
         first = leb-false (t .counts .first) (coreOf t (k .0) .first .0) (d .1);
       }
 
-  pub may-poll : mayPoll t k ≡ Allowed → (k .0 < t .counts .cores) × ((stateOf t k ≡ Waiting) ⊎ (stateOf t k ≡ WaitingSecond))
+  pub may-poll : verdict t (P k) ≡ Allowed → (k .0 < t .counts .cores) × ((coreOf t (k .0) .state ≡ Waiting) ⊎ (coreOf t (k .0) .state ≡ WaitingSecond))
   may-poll e =
-      let a = unless-not (noCore t k) _ _ e in
-      let b = unless-not (not (waits (stateOf t k))) _ _ (a .1) in
-      (core-there (a .0), which-waits (stateOf t k) (not-false (waits (stateOf t k)) (b .0)))
+      let a = unless-not (noCore (t .counts) k) _ _ e in
+      let b = unless-not (not (waits (coreOf t (k .0) .state))) _ _ (a .1) in
+      (core-there (a .0), which-waits (coreOf t (k .0) .state) (not-false (waits (coreOf t (k .0) .state)) (b .0)))
 
   pub may-interrupt :
-      mayInterrupt t k ≡ Allowed → (k .0 < t .counts .cores) × ((stateOf t k ≡ Waiting) ⊎ (stateOf t k ≡ WaitingSecond))
+      verdict t (I k) ≡ Allowed → (k .0 < t .counts .cores) × ((coreOf t (k .0) .state ≡ Waiting) ⊎ (coreOf t (k .0) .state ≡ WaitingSecond))
   may-interrupt e =
-      let a = unless-not (noCore t k) _ _ e in
-      let b = unless-not (holds (stateOf t k)) _ _ (a .1) in
-      let c = unless-not (not (waits (stateOf t k))) _ _ (b .1) in
-      (core-there (a .0), which-waits (stateOf t k) (not-false (waits (stateOf t k)) (c .0)))
+      let a = unless-not (noCore (t .counts) k) _ _ e in
+      let b = unless-not (holds (coreOf t (k .0) .state)) _ _ (a .1) in
+      let c = unless-not (not (waits (coreOf t (k .0) .state))) _ _ (b .1) in
+      (core-there (a .0), which-waits (coreOf t (k .0) .state) (not-false (waits (coreOf t (k .0) .state)) (c .0)))
 
-  pub may-come-back : mayComeBack t k ≡ Allowed → (k .0 < t .counts .cores) × (stateOf t k ≡ Away)
+  pub may-come-back : verdict t (C k) ≡ Allowed → (k .0 < t .counts .cores) × (coreOf t (k .0) .state ≡ Away)
   may-come-back e =
-      let a = unless-not (noCore t k) _ _ e in
-      let b = unless-not (not (isAway (stateOf t k))) _ _ (a .1) in
-      (core-there (a .0), is-away (stateOf t k) (not-false (isAway (stateOf t k)) (b .0)))
+      let a = unless-not (noCore (t .counts) k) _ _ e in
+      let b = unless-not (not (isAway (coreOf t (k .0) .state))) _ _ (a .1) in
+      (core-there (a .0), is-away (coreOf t (k .0) .state) (not-false (isAway (coreOf t (k .0) .state)) (b .0)))
 
-  pub may-release : mayRelease t k ≡ Allowed → (k .0 < t .counts .cores) × ((stateOf t k ≡ Holding) ⊎ (stateOf t k ≡ HoldingBoth))
+  pub may-release : verdict t (L k) ≡ Allowed → (k .0 < t .counts .cores) × ((coreOf t (k .0) .state ≡ Holding) ⊎ (coreOf t (k .0) .state ≡ HoldingBoth))
   may-release e =
-      let a = unless-not (noCore t k) _ _ e in
-      let b = unless-not (not (holds (stateOf t k))) _ _ (a .1) in
-      (core-there (a .0), which-holds (stateOf t k) (not-false (holds (stateOf t k)) (b .0)))
+      let a = unless-not (noCore (t .counts) k) _ _ e in
+      let b = unless-not (not (holds (coreOf t (k .0) .state))) _ _ (a .1) in
+      (core-there (a .0), which-holds (coreOf t (k .0) .state) (not-false (holds (coreOf t (k .0) .state)) (b .0)))

@@ -4,15 +4,14 @@ use mathlib.Core.Bool.{true}
 use mathlib.Core.Logic.{⊎-elim}
 use mathlib.Core.Path.{_≡_, ap}
 use native.Mathlib.Omega.{arith}
+use Rattle.parts.specs.declared.answer.Step.the-variants.{R, N, P, I, C, L}
 use Rattle.ticket.specs.declared.kinds.CoreNo.{CoreNo}
 use Rattle.ticket.specs.declared.kinds.UnitNo.{UnitNo}
 use Rattle.parts.specs.State.{isIdle, stands, waits}
-use Rattle.parts.specs.Parts.{cores, units, unitNo, core}
+use Rattle.parts.specs.Parts.{cores, units}
 use Rattle.block.specs.Table.{coreOf}
 use Rattle.block.specs.Sound.{sound}
-use Rattle.block.specs.Verdict.{mayRequest, mayNest, mayPoll, mayInterrupt, mayComeBack, mayRelease}
-use Rattle.parts.specs.declared.kinds.Core.{Core}
-use Rattle.parts.specs.declared.kinds.State.the-variants.{Away}
+use Rattle.block.specs.Steps.{verdict}
 use Rattle.block.specs.declared.table.Table.{Table}
 use Rattle.refusals.specs.declared.verdict.Verdict.the-variants.{Allowed}
 use Rattle.block.proofs.Parts.{parts}
@@ -28,36 +27,32 @@ module _ (t : Table) (k : CoreNo) (s : sound t ≡ true) where
   core-in : k .0 < t .counts .cores → k .0 < cores
   core-in h = omega (arith, cores-in)
 
-  pub request-in : (u : UnitNo) → mayRequest t k u ≡ Allowed → (k .0 < cores) × (u .0 < units)
+  pub request-in : (u : UnitNo) → verdict t (R k u) ≡ Allowed → (k .0 < cores) × (u .0 < units)
   request-in u e =
       let r = may-request t k u e in
       (core-in (r .within), omega (arith, r .unit, units-few (t .counts) (parts t s .counts)))
 
-  pub nest-in : (u : UnitNo) → mayNest t k u ≡ Allowed → (k .0 < cores) × (u .0 < units)
+  pub nest-in : (u : UnitNo) → verdict t (N k u) ≡ Allowed → (k .0 < cores) × (u .0 < units)
   nest-in u e =
       let r = may-nest t k u e in
       (core-in (r .within), omega (arith, r .unit, units-few (t .counts) (parts t s .counts)))
 
-  pub poll-in : mayPoll t k ≡ Allowed → (k .0 < cores) × (waits (coreOf t (k .0) .state) ≡ true)
+  pub poll-in : verdict t (P k) ≡ Allowed → (k .0 < cores) × (waits (coreOf t (k .0) .state) ≡ true)
   poll-in e =
       let r = may-poll t k e in
       (core-in (r .0), ⊎-elim (λ z. ap waits z) (λ z. ap waits z) (r .1))
 
-  pub interrupt-in : mayInterrupt t k ≡ Allowed → (k .0 < cores) × (stands (coreOf t (k .0) .state) ≡ true)
+  pub interrupt-in : verdict t (I k) ≡ Allowed → (k .0 < cores) × (stands (coreOf t (k .0) .state) ≡ true)
   interrupt-in e =
       let r = may-interrupt t k e in
       (core-in (r .0), ⊎-elim (λ z. ap stands z) (λ z. ap stands z) (r .1))
 
-  pub come-back-in : mayComeBack t k ≡ Allowed → (k .0 < cores) × (coreOf t (k .0) .first .0 < units)
+  pub come-back-in : verdict t (C k) ≡ Allowed → (k .0 < cores) × (coreOf t (k .0) .first .0 < units)
   come-back-in e =
       let r = may-come-back t k e in
       (core-in (r .0), first-in t (parts t s) (k .0) (core-in (r .0)) (ap isIdle (r .1)))
 
-  pub release-in : mayRelease t k ≡ Allowed → (k .0 < cores) × (stands (coreOf t (k .0) .state) ≡ true)
+  pub release-in : verdict t (L k) ≡ Allowed → (k .0 < cores) × (stands (coreOf t (k .0) .state) ≡ true)
   release-in e =
       let r = may-release t k e in
       (core-in (r .0), ⊎-elim (λ z. ap stands z) (λ z. ap stands z) (r .1))
-
--- what a core becomes by I
-abbrev pub away : Core → Core
-away c = core (c .own) (c .own) (c .first) (unitNo 0) Away

@@ -1,371 +1,410 @@
--- The step by its parts is the step. A step that is refused puts back what it read. An allowed one names a core and units of the
--- table, so that its places are their numbers; a unit that settled by itself is the one of the table that settled; and where the step
--- touches one unit the core has no second, so that both places are the same.
+-- The step by its parts is the step. A refused step puts back what it read. An allowed one names a core and units of the table, so that
+-- its places are their numbers; a unit that a core entered or left by itself is the one of the table that settled; and where the step
+-- touches one unit both places are the same, so that it is put last.
 use Prim.Native.Nat.{ℕ, _≤_, _<_}
-use mathlib.Core.Bool.{Bool, true, false, cond}
+use mathlib.Core.Bool.{Bool, true, false, cond, _&&_}
 use mathlib.Core.List.{List, _++_}
-use mathlib.Core.Path.{_≡_, refl, sym, _∙_, ap}
+use mathlib.Core.Logic.{⊎-elim, _≢_}
+use mathlib.Core.Path.{_≡_, refl, sym, _∙_, ap, ap₂, subst}
 use native.Mathlib.Omega.{arith}
-use lib.Dec.{ltb}
-use lib.Seq.{set-getD}
-use borrow.Author.Tests.{ltb-true, ltb-false, le-leb}
-use Rattle.ticket.specs.Kinds.{ticket}
-use Rattle.ticket.specs.Order.{after}
+use lib.Dec.{eqb, ltb}
+use lib.ListN.{getD, set}
+use lib.Seq.{getD-set-other, set-getD, set-set, set-comm}
+use borrow.Author.Tests.{ltb-true, ltb-false, le-leb, eq-eqb, ne-eqb}
 use Rattle.ticket.specs.declared.kinds.CoreNo.{CoreNo}
 use Rattle.ticket.specs.declared.kinds.Ticket.{Ticket}
 use Rattle.ticket.specs.declared.kinds.UnitNo.{UnitNo}
-use Rattle.parts.specs.State.{stands, twoStage, waits}
-use Rattle.parts.specs.Parts.{cores, units, unitNo, blank, standing, idle, core}
-use Rattle.block.specs.Table.{coreOf, unitOf, registerOf, withUnits, withUnit, withCore, withCounter}
-use Rattle.parts.specs.Answer.{packed}
-use Rattle.block.specs.Verdict.{refusal, answered}
-use Rattle.plan.specs.Settle.{next, won, registered, settledUnit}
-use Rattle.block.specs.Sound.{sound}
-use Rattle.refusals.specs.Judged.{unless, absent, onRequest, onNest, onPoll, onInterrupt, onComeBack, onRelease}
-use Rattle.block.specs.Steps.{entered, freed, awaited, polled, requested, nested, interrupted, cameBack, released, onSound}
-use Rattle.plan.specs.Poll.{served, heir}
-use Rattle.block.specs.Touched.{unsettled, changed, freedTwo}
-use Rattle.places.specs.Places.{inCores, inUnits, corePlace, unitPlace, otherPlace}
-use Rattle.block.specs.PutBack.{put, steppedBy}
-use Rattle.plan.specs.Plan.{quietly, done, winner, entering, freeing, polling, decided, planned}
+use Rattle.parts.specs.State.{isIdle, stands, twoStage, waits}
+use Rattle.parts.specs.Parts.{cores, units, blank, standing, idle, absentUnit, registerIn, registered}
+use Rattle.parts.specs.Answer.{whose, packed}
 use Rattle.parts.specs.declared.kinds.Register.{Register}
 use Rattle.parts.specs.declared.kinds.LockUnit.{LockUnit}
 use Rattle.parts.specs.declared.kinds.Core.{Core}
-use Rattle.parts.specs.declared.kinds.State.the-variants.{Waiting, WaitingSecond}
-use Rattle.block.specs.declared.table.Table.{Table}
-use Rattle.plan.specs.declared.settle.Best.{Best}
+use Rattle.parts.specs.declared.kinds.Counts.{Counts}
+use Rattle.parts.specs.declared.kinds.State.the-variants.{Idle}
 use Rattle.parts.specs.declared.answer.Answer.{Answer}
-use Rattle.parts.specs.declared.answer.Answer.the-variants.{Done, Granted, NotYet, NoCore}
+use Rattle.parts.specs.declared.answer.Answer.the-variants.{Done, NoCore}
 use Rattle.parts.specs.declared.answer.Grants.{Grants}
+use Rattle.parts.specs.declared.answer.Grants.the-variants.{None}
 use Rattle.parts.specs.declared.answer.Step.{Step}
 use Rattle.parts.specs.declared.answer.Step.the-variants.{R, N, P, I, C, L}
-use Rattle.block.specs.declared.stepped.Stepped.{Stepped}
+use Rattle.places.specs.Places.{inCores, inUnits, corePlace, unitPlace, otherPlace}
+use Rattle.refusals.specs.Judge.{unless, noCore, judge}
 use Rattle.refusals.specs.declared.verdict.Verdict.{Verdict}
 use Rattle.refusals.specs.declared.verdict.Verdict.the-variants.{Allowed, Refused}
+use Rattle.settling.specs.Line.{nextOf, next, won}
+use Rattle.settling.specs.Settle.{enter, leave}
+use Rattle.settling.specs.declared.line.Best.{Best}
+use Rattle.settling.specs.declared.settle.Settled.{Settled}
+use Rattle.effects.specs.Effect.{makes, hold, inherit, wait, stepEffect}
+use Rattle.effects.specs.declared.kinds.Move.{Move}
+use Rattle.effects.specs.declared.kinds.Move.the-variants.{Enter, GiveUp}
+use Rattle.effects.specs.declared.kinds.Effect.{Effect}
+use Rattle.plan.specs.Plan.{refuse, withUnits, entered, givenUp, carryOut, decided, planStep}
 use Rattle.plan.specs.declared.planning.Plan.{Plan}
+use Rattle.block.specs.Table.{coreOf, unitOf, registerOf, withUnits as allUnits, withUnit, withRegister, withCore, withCounter}
+use Rattle.block.specs.Sound.{sound}
+use Rattle.block.specs.Parts.{Sound}
+use Rattle.block.specs.Steps.{verdict, awaited, effectOn, giveUp, affected, moves, settled, performed, refusal, answered, onSound}
+use Rattle.block.specs.PutBack.{putBack}
+use Rattle.block.specs.declared.table.Table.{Table}
+use Rattle.block.specs.declared.stepped.Stepped.{Stepped}
+use Rattle.parts.proofs.Bools.{and-left, or-cases}
+use Rattle.parts.proofs.Ranging.{cores-few}
+use Rattle.places.proofs.Placing.{core-itself, unit-itself}
+use Rattle.block.proofs.Access.{Shaped}
 use Rattle.block.proofs.Parts.{parts}
-use Rattle.block.proofs.Allows.{may-request, may-nest, may-come-back}
+use Rattle.block.proofs.Touched.{CalmTable, changed, freedTwo, settledUnit}
+use Rattle.block.proofs.Touching.{settled-none, settled-one, settled-two}
 use Rattle.block.proofs.Settling.{changes, frees}
-use Rattle.places.proofs.Placing.{itself}
-use Rattle.block.proofs.Putting.{put-same, settles-one, settles-two}
-use Rattle.block.proofs.Standing.{sound-calm}
-use Rattle.block.proofs.Judging.{judged-request}
-use Rattle.block.proofs.Stepping.{enters, first-unit, second-unit, frees-one, frees-two, waiting-stands, polls-set, polls-heir, polls-wait}
-use Rattle.block.proofs.Answering.{cores-in, request-in, nest-in, poll-in, interrupt-in, come-back-in, release-in, away}
-
--- The places
-
--- the places by the core: its first unit, and its second or else the other
-abbrev first-place : Core → ℕ
-first-place b = inUnits (b .first .0)
-
-abbrev second-place : (Core → ℕ) → Core → ℕ
-second-place f b = cond (twoStage (b .state)) (inUnits (b .second .0)) (f b)
+use Rattle.block.proofs.Standing.{no-and, bare, bare-one, sound-calm}
+use Rattle.block.proofs.Stepping.{calm-elsewhere, oneCleared, twoCleared, first-unit, second-unit, clears-one, clears-two, one-calm, two-calm, waiting-stands, holding, carrying, inherited, poll-cases, same-core, carrying-calm, awaited-second}
+use Rattle.block.proofs.Entering.{Past, next-counted, enter-settles, leave-settles}
+use Rattle.block.proofs.Allows.{is-idle, may-request, may-nest, may-poll, may-interrupt, may-come-back, may-release}
+use Rattle.block.proofs.Answering.{cores-in, request-in, nest-in, poll-in, interrupt-in, come-back-in, release-in}
 
 -- What is put back
 
-module _ (t : Table) (k : ℕ) where
-  -- the registers as they were read
-  registers-stay : (i j : ℕ) → put (put (t .units) i k (registerOf t i k)) j k (registerOf t j k) ≡ t .units
-  registers-stay i j = ap (λ (l : List LockUnit). put l j k (registerOf t j k)) (put-same (t .units) i k) ∙ put-same (t .units) j k
+both-same : (us : List LockUnit) (i j : ℕ) → set (set us j (getD us j absentUnit)) i (getD us i absentUnit) ≡ us
+both-same us i j = ap (λ (l : List LockUnit). set l i (getD us i absentUnit)) (set-getD us j absentUnit) ∙ set-getD us i absentUnit
 
-  quiet :
-      (i j : ℕ) (a : Answer) (n : Ticket) (c : Core) →
-      steppedBy t k i j (quietly a n (t .counter) c (registerOf t i k) (registerOf t j k)) ≡ unsettled (withCore t k c) a n
-  quiet i j a n c =
-      ap (λ (l : List LockUnit). unsettled (withCore (withUnits t l) k c) a n) (registers-stay i j)
+first-same : (us : List LockUnit) (i j : ℕ) (y : LockUnit) → i ≢ j → set (set us j y) i (getD us i absentUnit) ≡ set us j y
+first-same us i j y d =
+    ap (set (set us j y) i) (sym (getD-set-other us j i y absentUnit d)) ∙ set-getD (set us j y) i absentUnit
 
-  -- and the core: a refused step
+module _ (t : Table) (k : CoreNo) where
+  -- a step's end, by its units
+  abbrev ended : List LockUnit → Effect → Grants → Stepped
+  ended us e g =
+      record {
+        table = record { units = us; cores = set (t .cores) (k .0) (e .core); counts = t .counts; counter = e .counter };
+        answer = e .answer;
+        ticket = e .ticket;
+        grants = g;
+      }
+
+  -- a refused step
   nothing :
-      (i j : ℕ) (a : Answer) →
-      steppedBy t k i j (quietly a (ticket 0) (t .counter) (coreOf t k) (registerOf t i k) (registerOf t j k)) ≡ refusal t a
+      (i j : UnitNo) (a : Answer) →
+      putBack t k i j (refuse a (t .counter) (coreOf t (k .0)) (unitOf t (i .0)) (unitOf t (j .0))) ≡ refusal t a
   nothing i j a =
-      quiet i j a (ticket 0) (coreOf t k) ∙
-      ap (λ (l : List Core). refusal (record { units = t .units; cores = l; counts = t .counts; counter = t .counter }) a) (set-getD (t .cores) k idle)
+      ap (λ (l : List LockUnit). refusal (withCore (allUnits t l) (k .0) (coreOf t (k .0))) a) (both-same (t .units) (i .0) (j .0)) ∙
+      ap (λ (z : Table). refusal z a) (same-core t (k .0))
 
-  -- the end of a step that is done, by its units
-  abbrev ended : List LockUnit → Core → Ticket → Ticket → Grants → Stepped
-  ended us c n m g = record { table = withCore (withUnits (withCounter t m) us) k c; answer = Done; ticket = n; grants = g }
+  -- the units as they were read
+  quiet :
+      (i j : UnitNo) (e : Effect) →
+      putBack t k i j (withUnits e (unitOf t (i .0)) (unitOf t (j .0)) None) ≡ ended (t .units) e None
+  quiet i j e = ap (λ (l : List LockUnit). ended l e None) (both-same (t .units) (i .0) (j .0))
 
-  -- the register r put at the unit x, which settles
-  abbrev doneAt : Core → UnitNo → LockUnit → Register → Ticket → Ticket → Plan
-  doneAt c u x r n m = done c r n m (packed (won (u .0) (winner x k r)))
+  -- the one unit, at both places, where the register of core k became r
+  abbrev oneSettled : UnitNo → Register → Settled
+  oneSettled u r = settledUnit (registered (unitOf t (u .0)) (k .0) r)
 
-  -- one unit, at both places
   one-put :
-      (c : Core) (u : UnitNo) (r : Register) (n m : Ticket) →
-      u .0 < units →
-      steppedBy t k (u .0) (u .0) (doneAt c u (unitOf t (u .0)) r n m) ≡ changed (withCounter t m) k c u r n
-  one-put c u r n m h =
-      let s = settledUnit (registered (unitOf t (u .0)) k r) in
-      ap (λ (l : List LockUnit). ended l c n m (packed (won (u .0) (s .winner)))) (settles-one (t .units) (u .0) k r h) ∙
-      changes (withCounter t m) k c u r n (registered (unitOf t (u .0)) k r) s (packed (won (u .0) (s .winner))) refl refl refl
+      (u : UnitNo) (r : Register) (b : Core) (d : Move) (n m : Ticket) (y : LockUnit) (s : Settled) →
+      s ≡ oneSettled u r →
+      putBack t k u u (withUnits (makes b d Done n m) (s .unit) y (packed (won (u .0) (s .winner)))) ≡ changed (withCounter t m) (k .0) b u r n
+  one-put u r b d n m y s es =
+      ap (λ (l : List LockUnit). ended l (makes b d Done n m) (packed (won (u .0) (s .winner)))) (set-set (t .units) (u .0) y (s .unit)) ∙
+      changes (withCounter t m) (k .0) b u r n _ s _ refl es refl
 
-  one-here :
-      (c : Core) (u : UnitNo) (r : Register) (n m : Ticket) (two : Bool) (g : ℕ) →
-      two ≡ false →
-      u .0 < units →
-      steppedBy t k (inUnits (u .0)) (cond two g (inUnits (u .0))) (doneAt c u (unitOf t (inUnits (u .0))) r n m) ≡ changed (withCounter t m) k c u r n
-  one-here c u r n m two g one h =
-      ap (λ (b : Bool). steppedBy t k (inUnits (u .0)) (cond b g (inUnits (u .0))) (doneAt c u (unitOf t (inUnits (u .0))) r n m)) one ∙
-      ap (λ (i : ℕ). steppedBy t k i i (doneAt c u (unitOf t i) r n m)) (itself units (u .0) h) ∙
-      one-put c u r n m h
-
-  -- the registers at the units x and y cleared, which both settle
-  abbrev freedAt : Core → UnitNo → UnitNo → LockUnit → LockUnit → Ticket → Plan
-  freedAt c u v x y n = done c blank n (t .counter) (packed (won (u .0) (winner x k blank) ++ won (v .0) (winner y k blank)))
-
+  -- two units, of which core k gave up its registers
   two-put :
-      (c : Core) (u v : UnitNo) (n : Ticket) →
+      (u v : UnitNo) (b : Core) (d : Move) (n : Ticket) (s z : Settled) →
       u .0 < v .0 →
-      v .0 < units →
-      steppedBy t k (u .0) (v .0) (freedAt c u v (unitOf t (u .0)) (unitOf t (v .0)) n) ≡ freedTwo t k c u v n
-  two-put c u v n l h =
-      let s = settledUnit (registered (unitOf t (u .0)) k blank) in
-      let z = settledUnit (registered (unitOf t (v .0)) k blank) in
-      ap (λ (us : List LockUnit). ended us c n (t .counter) (packed (won (u .0) (s .winner) ++ won (v .0) (z .winner))))
-      (settles-two (t .units) (u .0) (v .0) k blank l h) ∙
-      frees t k c u v n _ _ _ _ _ l refl refl refl refl refl
+      s ≡ oneSettled u blank →
+      z ≡ oneSettled v blank →
+      putBack t k u v (withUnits (makes b d Done n (t .counter)) (s .unit) (z .unit) (packed (won (u .0) (s .winner) ++ won (v .0) (z .winner)))) ≡
+      freedTwo t (k .0) b u v n
+  two-put u v b d n s z l es ez =
+      ap
+      (λ (us : List LockUnit). ended us (makes b d Done n (t .counter)) (packed (won (u .0) (s .winner) ++ won (v .0) (z .winner))))
+      (sym (set-comm (t .units) (u .0) (v .0) (s .unit) (z .unit) (λ e. omega arith))) ∙
+      frees t (k .0) b u v n _ _ s z _ l refl refl es ez refl
 
-  two-here :
-      (c : Core) (u v : UnitNo) (n : Ticket) →
-      u .0 < v .0 →
-      v .0 < units →
-      steppedBy t k (inUnits (u .0)) (inUnits (v .0)) (freedAt c u v (unitOf t (inUnits (u .0))) (unitOf t (inUnits (v .0))) n) ≡ freedTwo t k c u v n
-  two-here c u v n l h =
-      ap (λ (i : ℕ). steppedBy t k i (inUnits (v .0)) (freedAt c u v (unitOf t i) (unitOf t (inUnits (v .0))) n)) (itself units (u .0) (omega arith)) ∙
-      ap (λ (j : ℕ). steppedBy t k (u .0) j (freedAt c u v (unitOf t (u .0)) (unitOf t j) n)) (itself units (v .0) h) ∙
-      two-put c u v n l h
+-- A step of core k of a sound table that is allowed
 
--- A step by its verdict: w judges, f and g give the places, and p is the work of an allowed step, by the place of its core
-
-far-off : (b : Bool) (v : Verdict) → b ≡ true → unless b NoCore v ≡ Refused NoCore
-far-off true v e = refl
-far-off false v e = ap (λ (b : Bool). unless b NoCore v) e
-
-module _
-    (t : Table)
-    (k : CoreNo)
-    (few : t .counts .cores ≤ cores)
-    (w : Core → Verdict)
-    (f g : Core → ℕ)
-    (p : ℕ → Core → LockUnit → LockUnit → Plan)
-    (d : Stepped)
-    (far : (c : Core) → absent (t .counts) k ≡ true → w c ≡ Refused NoCore)
-    (work : k .0 < cores → w (coreOf t (k .0)) ≡ Allowed → steppedBy t (k .0) (f (coreOf t (k .0))) (g (coreOf t (k .0))) (p (k .0) (coreOf t (k .0)) (unitOf t (f (coreOf t (k .0)))) (unitOf t (g (coreOf t (k .0))))) ≡ d)
-  where
-    abbrev here : ℕ
-    here = inCores (k .0)
-
-    abbrev whole : ℕ → Core → Verdict → Stepped
-    whole i c v = steppedBy t i (f c) (g c) (decided v i (t .counter) c (unitOf t (f c)) (unitOf t (g c)) (p i c (unitOf t (f c)) (unitOf t (g c))))
-
-    -- the registers of a refused step are read and put back at the same place
-    put-back : (a : Answer) → whole here (coreOf t here) (Refused a) ≡ refusal t a
-    put-back a = nothing t here (f (coreOf t here)) (g (coreOf t here)) a
-
-    judged : k .0 < cores → (v : Verdict) → w (coreOf t (k .0)) ≡ v → whole here (coreOf t here) v ≡ answered t v d
-    judged h Allowed e = ap (λ (i : ℕ). whole i (coreOf t i) Allowed) (itself cores (k .0) h) ∙ work h e
-    judged h (Refused a) e = put-back a
-
-    by-verdict : whole here (coreOf t here) (w (coreOf t here)) ≡ answered t (w (coreOf t (k .0))) d
-    by-verdict = go (ltb (k .0) cores) refl
-      where
-        go : (b : Bool) → ltb (k .0) cores ≡ b → whole here (coreOf t here) (w (coreOf t here)) ≡ answered t (w (coreOf t (k .0))) d
-        go true e =
-            let h = ltb-true (k .0) cores e in
-            ap (λ (i : ℕ). whole here (coreOf t here) (w (coreOf t i))) (itself cores (k .0) h) ∙
-            judged h (w (coreOf t (k .0))) refl
-        go false e =
-            let off : absent (t .counts) k ≡ true = le-leb (t .counts .cores) (k .0) (omega (arith, few, ltb-false (k .0) cores e)) in
-            ap (whole here (coreOf t here)) (far (coreOf t here) off) ∙
-            put-back NoCore ∙
-            ap (λ (v : Verdict). answered t v d) (sym (far (coreOf t (k .0)) off))
-
--- The steps
-
-module _ (t : Table) (k : CoreNo) (s : sound t ≡ true) where
+module _ (t : Table) (shaped : Shaped t) (ok : sound t ≡ true) (k : CoreNo) (within : k .0 < t .counts .cores) where
   abbrev c : Core
   c = coreOf t (k .0)
 
-  few : t .counts .cores ≤ cores
-  few = cores-in t k s
+  abbrev n : ℕ
+  n = t .counts .cores
 
-  -- entering a unit, with the counter at m
-  enter :
-      (u : UnitNo) (n m : Ticket) (b : Core) →
-      twoStage (c .state) ≡ false →
-      u .0 < units →
-      steppedBy t (k .0) (inUnits (u .0)) (cond (twoStage (c .state)) (inUnits (c .second .0)) (inUnits (u .0))) (entering (k .0) b u (unitOf t (inUnits (u .0))) n m) ≡
-      entered (withCounter t m) (k .0) (u .0) n b
-  enter u n m b one h =
-      enters (withCounter t m) (k .0) u n b (standing n) _ h (sound-calm t (parts t s)) refl
-      (one-here t (k .0) b u (standing n) n m (twoStage (c .state)) (inUnits (c .second .0)) one h)
+  few : n ≤ cores
+  few = cores-in t k ok
 
-  -- giving up every register
-  leaves :
-      (b : Core) →
-      k .0 < cores →
-      stands (c .state) ≡ true →
-      steppedBy t (k .0) (first-place c) (second-place first-place c) (done b blank (c .own) (t .counter) (freeing (k .0) c (unitOf t (first-place c)) (unitOf t (second-place first-place c)))) ≡
-      freed t (k .0) b (c .own)
-  leaves b h at = go (twoStage (c .state)) refl
+  small : k .0 < cores
+  small = omega (arith, few)
+
+  past : (u : ℕ) → u < units → Past n (unitOf t u)
+  past u h j l m =
+      let z = idle-past in
+      bare t (parts t ok) j m u h (no-and (stands (coreOf t j .state)) _ (ap stands z)) (no-and (twoStage (coreOf t j .state)) _ (ap twoStage z))
     where
-      freed-at : ℕ → Best
-      freed-at i = winner (unitOf t i) (k .0) blank
+      idle-past : coreOf t j .state ≡ Idle
+      idle-past =
+          is-idle (coreOf t j .state)
+          (⊎-elim (λ e. absurd (let z = ltb-true j n e in omega arith)) (λ e. e)
+          (or-cases (ltb j n) (isIdle (coreOf t j .state)) (parts t ok .core j m .within)))
 
-      go :
-          (two : Bool) →
-          twoStage (c .state) ≡ two →
-          steppedBy t (k .0) (first-place c) (cond two (inUnits (c .second .0)) (first-place c))
-          (done b blank (c .own) (t .counter)
-          (cond two
-          (packed (won (c .first .0) (freed-at (first-place c)) ++ won (c .second .0) (freed-at (cond two (inUnits (c .second .0)) (first-place c)))))
-          (packed (won (c .first .0) (freed-at (first-place c)))))) ≡
-          freed t (k .0) b (c .own)
-      go true e =
-          let in-table = second-unit t (k .0) h s at e in
-          frees-two t (k .0) h s at b (c .own) _ e (two-here t (k .0) b (c .first) (c .second) (c .own) (in-table .0) (in-table .1))
-      go false e =
-          frees-one t (k .0) h s at b (c .own) _ blank e refl
-          (one-here t (k .0) b (c .first) blank (c .own) (t .counter) false 0 refl (first-unit t (k .0) h s at))
+  -- Entering
 
-  -- the poll, at the first unit and at the one that the core waits for
-  module _ (h : k .0 < cores) (w : waits (c .state) ≡ true) where
-    at : stands (c .state) ≡ true
-    at = waiting-stands (c .state) w
+  module _ (u : UnitNo) (b : Core) (q m : Ticket) (h : u .0 < units) (bare-there : registerOf t (u .0) (k .0) ≡ blank) where
+    abbrev enters : Effect
+    enters = makes b (Enter u q) Done q m
 
-    awaited-place : second-place first-place c ≡ awaited c
-    awaited-place = go (twoStage (c .state)) refl
+    entering : (y : LockUnit) → putBack t k u u (entered enters n k u q (unitOf t (u .0)) y) ≡ settled (affected t (k .0) enters) Done q
+    entering y =
+        one-put t k u (standing q) b (Enter u q) q m y _
+        (enter-settles n (unitOf t (u .0)) k few (past (u .0) h) (shaped .registers-long (u .0) h) within (parts t ok .unit (u .0) h .oneFlag) q bare-there) ∙
+        settled-one (affected t (k .0) enters) u Done q h (calm-elsewhere t (u .0) (k .0) (standing q) (sound-calm t (parts t ok)))
+
+    enter-here :
+        (two : Bool) →
+        two ≡ false →
+        let i = inUnits u in
+        let j = cond two (inUnits (c .second)) (inUnits u) in
+        putBack t k i j (entered enters n k u q (unitOf t (i .0)) (unitOf t (j .0))) ≡ settled (affected t (k .0) enters) Done q
+    enter-here two one =
+        ap
+        (λ (a : Bool).
+        let j = cond a (inUnits (c .second)) (inUnits u) in
+        putBack t k (inUnits u) j (entered enters n k u q (unitOf t (inUnits u .0)) (unitOf t (j .0))))
+        one ∙
+        ap (λ (i : UnitNo). putBack t k i i (entered enters n k u q (unitOf t (i .0)) (unitOf t (i .0)))) (unit-itself u h) ∙
+        entering (unitOf t (u .0))
+
+  -- Giving up
+
+  module _ (at : stands (c .state) ≡ true) (b : Core) (q : Ticket) where
+    abbrev leaves : Effect
+    leaves = makes b GiveUp Done q (t .counter)
+
+    first-in-table : c .first .0 < units
+    first-in-table = first-unit t (k .0) small ok at
+
+    first-valid : registerOf t (c .first .0) (k .0) .valid ≡ true
+    first-valid =
+        let r = registerOf t (c .first .0) (k .0) in
+        let same = eq-eqb (c .first .0) (c .first .0) refl in
+        let agrees = parts t ok .unit (c .first .0) first-in-table .agrees (k .0) small in
+        let shown = simp (at, same) at agrees in
+        and-left (r .valid) (eqb (r .ticket .0) (c .own .0)) (and-left (r .valid && eqb (r .ticket .0) (c .own .0)) _ shown)
+
+    left-first : leave n (unitOf t (c .first .0)) k ≡ oneSettled t k (c .first) blank
+    left-first =
+        leave-settles n (unitOf t (c .first .0)) k few (past (c .first .0) first-in-table) (shaped .registers-long (c .first .0) first-in-table) within
+        (parts t ok .unit (c .first .0) first-in-table .oneFlag) first-valid
+
+    module _ (two : twoStage (c .state) ≡ true) where
+      second-in-table : (c .first .0 < c .second .0) × (c .second .0 < units)
+      second-in-table = second-unit t (k .0) small ok at two
+
+      second-valid : registerOf t (c .second .0) (k .0) .valid ≡ true
+      second-valid =
+          let r = registerOf t (c .second .0) (k .0) in
+          let other = ne-eqb (c .second .0) (c .first .0) (let l = second-in-table .0 in λ e. omega arith) in
+          let same = eq-eqb (c .second .0) (c .second .0) refl in
+          let agrees = parts t ok .unit (c .second .0) (second-in-table .1) .agrees (k .0) small in
+          let shown = simp (at, other, two, same) at agrees in
+          and-left (r .valid) (eqb (r .ticket .0) (c .carried .0)) (and-left (r .valid && eqb (r .ticket .0) (c .carried .0)) _ shown)
+
+      left-second : leave n (unitOf t (c .second .0)) k ≡ oneSettled t k (c .second) blank
+      left-second =
+          leave-settles n (unitOf t (c .second .0)) k few (past (c .second .0) (second-in-table .1))
+          (shaped .registers-long (c .second .0) (second-in-table .1)) within
+          (parts t ok .unit (c .second .0) (second-in-table .1) .oneFlag) second-valid
+
+    leave-here :
+        let i = inUnits (c .first) in
+        let j = cond (twoStage (c .state)) (inUnits (c .second)) (inUnits (c .first)) in
+        putBack t k i j (givenUp leaves n k c (unitOf t (i .0)) (unitOf t (j .0))) ≡ settled (affected t (k .0) leaves) Done q
+    leave-here = go (twoStage (c .state)) refl
       where
-        go : (two : Bool) → twoStage (c .state) ≡ two → cond two (inUnits (c .second .0)) (first-place c) ≡ cond two (c .second .0) (c .first .0)
-        go true e = itself units (c .second .0) (second-unit t (k .0) h s at e .1)
-        go false e = itself units (c .first .0) (first-unit t (k .0) h s at)
+        one-left : UnitNo → LockUnit → Plan
+        one-left i y = let s = leave n (unitOf t (i .0)) k in withUnits leaves (s .unit) y (packed (won (c .first .0) (s .winner)))
 
-    abbrev heired : Ticket
-    heired = heir (c .carried) (next (unitOf t (c .first .0)))
-
-    abbrev carrier : Core
-    carrier = core (c .own) heired (c .first) (c .second) (c .state)
-
-    abbrev holder : Core
-    holder = core (c .own) (c .carried) (c .first) (c .second) (served (c .state))
-
-    abbrev entered-again : LockUnit
-    entered-again = registered (unitOf t (awaited c)) (k .0) (standing heired)
-
-    inherits :
-        steppedBy t (k .0) (c .first .0) (awaited c) (quietly NotYet heired (t .counter) carrier (registerOf t (c .first .0) (k .0)) (standing heired)) ≡
-        unsettled (withCore (withUnit t (awaited c) entered-again) (k .0) carrier) NotYet heired
-    inherits =
-        ap (λ (l : List LockUnit). unsettled (withCore (withUnits t (put l (awaited c) (k .0) (standing heired))) (k .0) carrier) NotYet heired)
-        (put-same (t .units) (c .first .0) (k .0))
-
-    abbrev polling-here : Plan
-    polling-here = polling (k .0) c (t .counter) (unitOf t (c .first .0)) (unitOf t (awaited c))
-
-    polls-here : steppedBy t (k .0) (c .first .0) (awaited c) polling-here ≡ polled t (k .0)
-    polls-here = go (registerOf t (awaited c) (k .0) .flag) refl
-      where
-        stage :
-            registerOf t (awaited c) (k .0) .flag ≡ false →
-            (two : Bool) →
-            twoStage (c .state) ≡ two →
-            steppedBy t (k .0) (c .first .0) (awaited c)
-            (cond two
-            (quietly NotYet heired (t .counter) carrier (registerOf t (c .first .0) (k .0)) (standing heired))
-            (quietly NotYet (c .carried) (t .counter) c (registerOf t (c .first .0) (k .0)) (registerOf t (awaited c) (k .0)))) ≡
-            polled t (k .0)
-        stage flag true e =
-            polls-heir t (k .0) (awaited c) h s w c refl refl _ _ _ _ _ _ flag e refl refl refl refl refl inherits
-        stage flag false e =
-            polls-wait t (k .0) (awaited c) h s w c refl refl _ flag e (quiet t (k .0) (c .first .0) (awaited c) NotYet (c .carried) c)
+        two-left : UnitNo → UnitNo → Plan
+        two-left i j =
+            let s = leave n (unitOf t (i .0)) k in
+            let z = leave n (unitOf t (j .0)) k in
+            withUnits leaves (s .unit) (z .unit) (packed (won (c .first .0) (s .winner) ++ won (c .second .0) (z .winner)))
 
         go :
-            (flag : Bool) →
-            registerOf t (awaited c) (k .0) .flag ≡ flag →
-            steppedBy t (k .0) (c .first .0) (awaited c)
-            (cond flag
-            (quietly Granted (c .carried) (t .counter) holder (registerOf t (c .first .0) (k .0)) (registerOf t (awaited c) (k .0)))
-            (cond (twoStage (c .state))
-            (quietly NotYet heired (t .counter) carrier (registerOf t (c .first .0) (k .0)) (standing heired))
-            (quietly NotYet (c .carried) (t .counter) c (registerOf t (c .first .0) (k .0)) (registerOf t (awaited c) (k .0))))) ≡
-            polled t (k .0)
-        go true e =
-            polls-set t (k .0) (awaited c) h s w c refl refl holder _ e refl (quiet t (k .0) (c .first .0) (awaited c) Granted (c .carried) holder)
-        go false e = stage e (twoStage (c .state)) refl
+            (two : Bool) →
+            twoStage (c .state) ≡ two →
+            let i = inUnits (c .first) in
+            let j = cond two (inUnits (c .second)) (inUnits (c .first)) in
+            putBack t k i j (cond two (two-left i j) (one-left i (unitOf t (j .0)))) ≡ settled (affected t (k .0) leaves) Done q
+        go true two =
+            let b2 = second-in-table two in
+            ap (λ (i : UnitNo). putBack t k i (inUnits (c .second)) (two-left i (inUnits (c .second)))) (unit-itself (c .first) first-in-table) ∙
+            ap (λ (j : UnitNo). putBack t k (c .first) j (two-left (c .first) j)) (unit-itself (c .second) (b2 .1)) ∙
+            two-put t k (c .first) (c .second) b GiveUp q _ _ (b2 .0) left-first (left-second two) ∙
+            settled-two (withCore (twoCleared t (k .0)) (k .0) b) (c .first) (c .second) Done q (b2 .0) (b2 .1) (two-calm t (k .0) small ok at) ∙
+            ap (λ (z : Table). settled (withCounter (withCore z (k .0) b) (t .counter)) Done q) (sym (clears-two t (k .0) small ok at two))
+        go false one =
+            ap (λ (i : UnitNo). putBack t k i i (one-left i (unitOf t (i .0)))) (unit-itself (c .first) first-in-table) ∙
+            one-put t k (c .first) blank b GiveUp q (t .counter) _ _ left-first ∙
+            settled-one (withCore (oneCleared t (k .0)) (k .0) b) (c .first) Done q first-in-table (one-calm t (k .0) small ok at) ∙
+            ap (λ (z : Table). settled (withCounter (withCore z (k .0) b) (t .counter)) Done q) (sym (clears-one t (k .0) small ok at one))
 
-    polls :
-        steppedBy t (k .0) (first-place c) (second-place first-place c) (polling (k .0) c (t .counter) (unitOf t (first-place c)) (unitOf t (second-place first-place c))) ≡
-        polled t (k .0)
+  -- Polling: the first unit, and the one that the core waits for
+
+  module _ (w : waits (c .state) ≡ true) where
+    waits-at : stands (c .state) ≡ true
+    waits-at = waiting-stands (c .state) w
+
+    first-there : c .first .0 < units
+    first-there = first-unit t (k .0) small ok waits-at
+
+    awaited-place : cond (twoStage (c .state)) (inUnits (c .second)) (inUnits (c .first)) ≡ record { 0 = awaited c }
+    awaited-place = go (twoStage (c .state)) refl
+      where
+        go :
+            (two : Bool) →
+            twoStage (c .state) ≡ two →
+            cond two (inUnits (c .second)) (inUnits (c .first)) ≡ record { 0 = cond two (c .second .0) (c .first .0) }
+        go true e = unit-itself (c .second) (second-unit t (k .0) small ok waits-at e .1)
+        go false e = unit-itself (c .first) first-there
+
+    -- the effect, carried out on those units
+    abbrev polled : Effect → Stepped
+    polled e =
+        putBack t k (c .first) (record { 0 = awaited c })
+        (carryOut e n k c (unitOf t (c .first .0)) (unitOf t (awaited c)))
+
+    calm : CalmTable t
+    calm = sound-calm t (parts t ok)
+
+    polls : polled (effectOn t (P k)) ≡ settled (affected t (k .0) (effectOn t (P k))) (effectOn t (P k) .answer) (effectOn t (P k) .ticket)
     polls =
-        ap (λ (i : ℕ). steppedBy t (k .0) i (second-place first-place c) (polling (k .0) c (t .counter) (unitOf t i) (unitOf t (second-place first-place c)))) (itself units (c .first .0) (first-unit t (k .0) h s at)) ∙
-        ap (λ (j : ℕ). steppedBy t (k .0) (c .first .0) j (polling (k .0) c (t .counter) (unitOf t (c .first .0)) (unitOf t j))) awaited-place ∙
-        polls-here
+        poll-cases t k (λ (e : Effect). polled e ≡ settled (affected t (k .0) e) (e .answer) (e .ticket))
+        (λ flag. quiet t k (c .first) (record { 0 = awaited c }) (hold (t .counter) c) ∙ settled-none (holding t (k .0)) _ _ calm)
+        (λ flag two.
+        let q = inherited t c in
+        let e = inherit (t .counter) c q in
+        let l = second-unit t (k .0) small ok waits-at two .0 in
+        let at-second : awaited c ≡ c .second .0 = ap (λ (a : Bool). cond a (c .second .0) (c .first .0)) two in
+        ap
+        (λ (v : ℕ). putBack t k (c .first) (record { 0 = v }) (withUnits e (unitOf t (c .first .0)) (registered (unitOf t v) (k .0) (standing q)) None))
+        at-second ∙
+        ap (λ (us : List LockUnit). ended t k us e None) (first-same (t .units) (c .first .0) (c .second .0) _ (λ d. omega arith)) ∙
+        settled-none (carrying t (k .0) q) _ _ (carrying-calm t (k .0) small ok w two (awaited-second t (k .0) two flag) q))
+        (λ flag one.
+        quiet t k (c .first) (record { 0 = awaited c }) (wait (t .counter) c) ∙
+        settled-none (affected t (k .0) (wait (t .counter) c)) _ _ (subst CalmTable (sym (same-core t (k .0))) calm))
 
--- the step whole
-pub by-parts :
-    (t : Table) (s : Step) →
-    sound t ≡ true →
-    let c = coreOf t (corePlace s) in
+    -- what is read at the places is what the step reads
+    poll-here :
+        let i = inUnits (c .first) in
+        let j = cond (twoStage (c .state)) (inUnits (c .second)) (inUnits (c .first)) in
+        putBack t k i j
+        (carryOut (stepEffect (P k) (t .counter) c (registerIn (unitOf t (j .0)) (k .0) .flag) (nextOf n (unitOf t (i .0)))) n k c (unitOf t (i .0)) (unitOf t (j .0))) ≡
+        performed t (P k)
+    poll-here =
+        ap
+        (λ (i : UnitNo).
+        let j = cond (twoStage (c .state)) (inUnits (c .second)) (inUnits (c .first)) in
+        putBack t k i j
+        (carryOut (stepEffect (P k) (t .counter) c (registerIn (unitOf t (j .0)) (k .0) .flag) (nextOf n (unitOf t (i .0)))) n k c (unitOf t (i .0)) (unitOf t (j .0))))
+        (unit-itself (c .first) first-there) ∙
+        ap
+        (λ (j : UnitNo).
+        putBack t k (c .first) j
+        (carryOut (stepEffect (P k) (t .counter) c (registerIn (unitOf t (j .0)) (k .0) .flag) (nextOf n (unitOf t (c .first .0)))) n k c (unitOf t (c .first .0)) (unitOf t (j .0))))
+        awaited-place ∙
+        ap
+        (λ (b : Best). polled (stepEffect (P k) (t .counter) c (registerOf t (awaited c) (k .0) .flag) b))
+        (sym (next-counted n (unitOf t (c .first .0)) few (past (c .first .0) first-there))) ∙
+        polls
+
+-- The step whole
+
+-- the plan of a step of core k, put back, by the verdict
+abbrev whole : Table → Step → CoreNo → Verdict → Stepped
+whole t s k v =
+    let c = coreOf t (k .0) in
     let i = unitPlace s c in
     let j = otherPlace s c in
-    steppedBy t (corePlace s) i j (planned s (t .counts) (t .counter) (t .cores) c (unitOf t i) (unitOf t j)) ≡ onSound t s
-unfolding planned onSound
-by-parts t (R k u) s =
-    by-verdict t k (few t k s)
-    (λ (b : Core). onRequest (t .counts) (t .cores) (t .counter) k (b .state) u)
-    (λ (b : Core). inUnits (u .0))
-    (second-place (λ (b : Core). inUnits (u .0)))
-    (λ (i : ℕ) (b : Core) (x y : LockUnit). entering i (core (t .counter) (t .counter) u (unitNo 0) Waiting) u x (t .counter) (ticket (after (t .counter .0))))
-    (requested t (k .0) u)
-    (λ b e. far-off _ _ e)
-    (λ h e.
-    let a = sym (judged-request t k (coreOf t (k .0)) _ refl u s refl) ∙ e in
-    enter t k s u (t .counter) (ticket (after (t .counter .0))) _ (ap twoStage (may-request t k u a .state)) (request-in t k s u a .1)) ∙
-    ap (λ (v : Verdict). answered t v (requested t (k .0) u)) (judged-request t k (coreOf t (k .0)) _ refl u s refl)
-by-parts t (N k u) s =
-    by-verdict t k (few t k s)
-    (λ (b : Core). onNest (t .counts) k (b .state) (b .first) u)
-    (λ (b : Core). inUnits (u .0))
-    (second-place (λ (b : Core). inUnits (u .0)))
-    (λ (i : ℕ) (b : Core) (x y : LockUnit). entering i (core (b .own) (b .own) (b .first) u WaitingSecond) u x (b .own) (t .counter))
-    (nested t (k .0) u)
-    (λ b e. far-off _ _ e)
-    (λ h e. enter t k s u (coreOf t (k .0) .own) (t .counter) _ (ap twoStage (may-nest t k u e .state)) (nest-in t k s u e .1))
-by-parts t (P k) s =
-    by-verdict t k (few t k s)
-    (λ (b : Core). onPoll (t .counts) k (b .state))
-    first-place
-    (second-place first-place)
-    (λ (i : ℕ) (b : Core) (x y : LockUnit). polling i b (t .counter) x y)
-    (polled t (k .0))
-    (λ b e. far-off _ _ e)
-    (λ h e. polls t k s h (poll-in t k s e .1))
-by-parts t (I k) s =
-    by-verdict t k (few t k s)
-    (λ (b : Core). onInterrupt (t .counts) k (b .state))
-    first-place
-    (second-place first-place)
-    (λ (i : ℕ) (b : Core) (x y : LockUnit). done (away b) blank (b .own) (t .counter) (freeing i b x y))
-    (interrupted t (k .0))
-    (λ b e. far-off _ _ e)
-    (λ h e. leaves t k s (away (coreOf t (k .0))) h (interrupt-in t k s e .1))
-by-parts t (C k) s =
-    by-verdict t k (few t k s)
-    (λ (b : Core). onComeBack (t .counts) k (b .state))
-    first-place
-    (second-place first-place)
-    (λ (i : ℕ) (b : Core) (x y : LockUnit). entering i (core (b .own) (b .own) (b .first) (unitNo 0) Waiting) (b .first) x (b .own) (t .counter))
-    (cameBack t (k .0))
-    (λ b e. far-off _ _ e)
-    (λ h e. enter t k s (coreOf t (k .0) .first) (coreOf t (k .0) .own) (t .counter) _ (ap twoStage (may-come-back t k e .1)) (come-back-in t k s e .1))
-by-parts t (L k) s =
-    by-verdict t k (few t k s)
-    (λ (b : Core). onRelease (t .counts) k (b .state))
-    first-place
-    (second-place first-place)
-    (λ (i : ℕ) (b : Core) (x y : LockUnit). done idle blank (b .own) (t .counter) (freeing i b x y))
-    (released t (k .0))
-    (λ b e. far-off _ _ e)
-    (λ h e. leaves t k s idle h (release-in t k s e .1))
+    let x = unitOf t (i .0) in
+    let y = unitOf t (j .0) in
+    putBack t k i j
+    (decided v (t .counter) c x y
+    (carryOut (stepEffect s (t .counter) c (registerIn y (k .0) .flag) (nextOf (t .counts .cores) x)) (t .counts .cores) k c x y))
+
+off : (b : Bool) (v : Verdict) → b ≡ true → unless b NoCore v ≡ Refused NoCore
+off true v e = refl
+off false v e = ap (λ (b : Bool). unless b NoCore v) e
+
+far-off : (s : Step) (d : Counts) (m : Ticket) (cs : List Core) (c : Core) → noCore d (whose s) ≡ true → judge s d m cs c ≡ Refused NoCore
+far-off (R k u) d m cs c e = off _ _ e
+far-off (N k u) d m cs c e = off _ _ e
+far-off (P k) d m cs c e = off _ _ e
+far-off (I k) d m cs c e = off _ _ e
+far-off (C k) d m cs c e = off _ _ e
+far-off (L k) d m cs c e = off _ _ e
+
+-- a core that stands nowhere has its registers blank
+nowhere :
+    (t : Table) → sound t ≡ true → (k u : ℕ) → k < cores → u < units →
+    stands (coreOf t k .state) ≡ false → twoStage (coreOf t k .state) ≡ false → registerOf t u k ≡ blank
+nowhere t ok k u h l a b = bare t (parts t ok) k h u l (no-and _ _ a) (no-and _ _ b)
+
+allowed : (t : Table) (shaped : Shaped t) (ok : sound t ≡ true) (s : Step) → verdict t s ≡ Allowed → whole t s (whose s) Allowed ≡ performed t s
+allowed t shaped ok (R k u) may =
+    let r = may-request t k u may in
+    let i = request-in t k ok u may in
+    enter-here t shaped ok k (r .within) u _ (t .counter) _ (i .1)
+    (nowhere t ok (k .0) (u .0) (i .0) (i .1) (ap stands (r .state)) (ap twoStage (r .state)))
+    (twoStage (coreOf t (k .0) .state)) (ap twoStage (r .state))
+allowed t shaped ok (N k u) may =
+    let r = may-nest t k u may in
+    let i = nest-in t k ok u may in
+    enter-here t shaped ok k (r .within) u _ (coreOf t (k .0) .own) (t .counter) (i .1)
+    (bare-one t (parts t ok) (k .0) (i .0) (ap twoStage (r .state)) (u .0) (i .1) (λ e. omega arith))
+    (twoStage (coreOf t (k .0) .state)) (ap twoStage (r .state))
+allowed t shaped ok (P k) may = poll-here t shaped ok k (may-poll t k may .0) (poll-in t k ok may .1)
+allowed t shaped ok (I k) may = leave-here t shaped ok k (may-interrupt t k may .0) (interrupt-in t k ok may .1) _ _
+allowed t shaped ok (C k) may =
+    let r = may-come-back t k may in
+    let i = come-back-in t k ok may in
+    enter-here t shaped ok k (r .0) (coreOf t (k .0) .first) _ (coreOf t (k .0) .own) (t .counter) (i .1)
+    (nowhere t ok (k .0) (coreOf t (k .0) .first .0) (i .0) (i .1) (ap stands (r .1)) (ap twoStage (r .1)))
+    (twoStage (coreOf t (k .0) .state)) (ap twoStage (r .1))
+allowed t shaped ok (L k) may = leave-here t shaped ok k (may-release t k may .0) (release-in t k ok may .1) _ _
+
+pub by-parts :
+    (t : Table) (s : Step) →
+    Shaped t →
+    sound t ≡ true →
+    let k = corePlace s in
+    let c = coreOf t (k .0) in
+    let i = unitPlace s c in
+    let j = otherPlace s c in
+    putBack t k i j (planStep s (t .counts) (t .counter) (t .cores) c (unitOf t (i .0)) (unitOf t (j .0))) ≡ onSound t s
+unfolding planStep onSound
+by-parts t s shaped ok = go (ltb (whose s .0) cores) refl
+  where
+    put-back : (k : CoreNo) (a : Answer) → whole t s k (Refused a) ≡ refusal t a
+    put-back k a = nothing t k (unitPlace s (coreOf t (k .0))) (otherPlace s (coreOf t (k .0))) a
+
+    judged : (v : Verdict) → verdict t s ≡ v → whole t s (whose s) v ≡ answered t v (performed t s)
+    judged Allowed e = allowed t shaped ok s e
+    judged (Refused a) e = put-back (whose s) a
+
+    go :
+        (b : Bool) →
+        ltb (whose s .0) cores ≡ b →
+        whole t s (corePlace s) (judge s (t .counts) (t .counter) (t .cores) (coreOf t (corePlace s .0))) ≡ answered t (verdict t s) (performed t s)
+    go true e =
+        ap (λ (k : CoreNo). whole t s k (judge s (t .counts) (t .counter) (t .cores) (coreOf t (k .0)))) (core-itself (whose s) (ltb-true (whose s .0) cores e)) ∙
+        judged (verdict t s) refl
+    go false e =
+        let few = cores-few (t .counts) (parts t ok .counts) in
+        let off : noCore (t .counts) (whose s) ≡ true = le-leb (t .counts .cores) (whose s .0) (omega (arith, few, ltb-false (whose s .0) cores e)) in
+        ap (whole t s (corePlace s)) (far-off s (t .counts) (t .counter) (t .cores) (coreOf t (corePlace s .0)) off) ∙
+        put-back (corePlace s) NoCore ∙
+        sym (ap (λ (v : Verdict). answered t v (performed t s)) (far-off s (t .counts) (t .counter) (t .cores) (coreOf t (whose s .0)) off))

@@ -6,7 +6,7 @@ use Rattle.parts.specs.Fold.{every}
 use Rattle.parts.specs.Parts.{cores, units}
 use Rattle.block.specs.Table.{coreOf, unitOf, registerOf}
 use Rattle.parts.specs.Range.{inRange}
-use Rattle.agreement.specs.Agreement.{unitSound}
+use Rattle.soundness.specs.Agreement.{unitSound}
 use Rattle.soundness.specs.Sound.{coreSound}
 use Rattle.block.specs.Sound as S
 use Rattle.block.specs.Parts.{CoreSound, UnitSound, Sound}

@@ -11,27 +11,27 @@ use lib.ListN.{getD, set}
 use lib.Seq.{set-set, set-comm}
 use Rattle.ticket.specs.declared.kinds.Ticket.{Ticket}
 use Rattle.ticket.specs.declared.kinds.UnitNo.{UnitNo}
-use Rattle.parts.specs.Parts.{blank, flagged, noUnit, registerIn}
+use Rattle.parts.specs.Parts.{blank, flagged, absentUnit, registerIn, registered}
 use Rattle.block.specs.Table.{unitOf, withUnit, withRegister, withCore}
 use Rattle.parts.specs.Answer.{packed}
-use Rattle.plan.specs.Settle.{flags, next, won, registered, givenUnit, settledUnit}
-use Rattle.block.specs.Settle.{give, settleAt}
-use Rattle.block.specs.Touched.{changed, freedTwo}
+use Rattle.settling.specs.Line.{flags, next, won}
+use Rattle.settling.specs.Settle.{given}
+use Rattle.block.specs.Settle.{give, settleAt, SettledAt}
+use Rattle.block.proofs.Touched.{changed, freedTwo, settledUnit}
 use Rattle.parts.specs.declared.kinds.Register.{Register}
 use Rattle.parts.specs.declared.kinds.LockUnit.{LockUnit}
 use Rattle.parts.specs.declared.kinds.Core.{Core}
 use Rattle.block.specs.declared.table.Table.{Table}
-use Rattle.plan.specs.declared.settle.Best.{Best}
-use Rattle.plan.specs.declared.settle.Best.the-variants.{Nobody, Core as Won}
-use Rattle.block.specs.declared.table.Settled.{Settled}
-use Rattle.plan.specs.declared.settle.SettledUnit.{SettledUnit}
+use Rattle.settling.specs.declared.line.Best.{Best}
+use Rattle.settling.specs.declared.line.Best.the-variants.{Nobody, Won}
+use Rattle.settling.specs.declared.settle.Settled.{Settled}
 use Rattle.parts.specs.declared.answer.Answer.the-variants.{Done}
 use Rattle.parts.specs.declared.answer.Grants.{Grants}
 use Rattle.block.specs.declared.stepped.Stepped.{Stepped}
 use Rattle.block.proofs.Access.{unit-other}
 
 -- a unit with a changed register stands where it was put
-there : (l : List LockUnit) (u k : ℕ) (r : Register) → getD (set l u (registered (getD l u noUnit) k r)) u noUnit ≡ registered (getD l u noUnit) k r
+there : (l : List LockUnit) (u k : ℕ) (r : Register) → getD (set l u (registered (getD l u absentUnit) k r)) u absentUnit ≡ registered (getD l u absentUnit) k r
 there [] u k r = refl
 there (x ∷ xs) zero k r = refl
 there (x ∷ xs) (suc u) k r = there xs u k r
@@ -40,13 +40,13 @@ module _ (t : Table) (u : ℕ) (x : LockUnit) (at : unitOf (withUnit t u x) u �
   abbrev before : Table
   before = withUnit t u x
 
-  abbrev put : SettledUnit → Settled
+  abbrev put : Settled → SettledAt
   put s = record { table = withUnit t u (s .unit); winner = s .winner }
 
   twice : (y : LockUnit) → withUnit before u y ≡ withUnit t u y
   twice y i = record { units = set-set (t .units) u x y i; cores = t .cores; counts = t .counts; counter = t .counter }
 
-  put-give : (w : Best) → give before u w ≡ put (givenUnit x w)
+  put-give : (w : Best) → give before u w ≡ put (given x w)
   put-give Nobody = refl
   put-give (Won k n) =
       (λ i. record { table = withUnit before u (registered (at i) (k .0) (flagged (registerIn (at i) (k .0)))); winner = Won k n }) ∙
@@ -56,7 +56,7 @@ module _ (t : Table) (u : ℕ) (x : LockUnit) (at : unitOf (withUnit t u x) u �
   put-settled =
       ap (λ (z : LockUnit). cond (eqb (flags z) 0) (give before u (next z)) (give before u Nobody)) at ∙ go (eqb (flags x) 0)
     where
-      go : (b : Bool) → cond b (give before u (next x)) (give before u Nobody) ≡ put (cond b (givenUnit x (next x)) (givenUnit x Nobody))
+      go : (b : Bool) → cond b (give before u (next x)) (give before u Nobody) ≡ put (cond b (given x (next x)) (given x Nobody))
       go true = put-give (next x)
       go false = put-give Nobody
 
@@ -66,7 +66,7 @@ done t n g = record { table = t; answer = Done; ticket = n; grants = g }
 
 -- one unit, from what the calls give
 pub changes :
-    (t : Table) (k : ℕ) (c : Core) (u : UnitNo) (r : Register) (n : Ticket) (x : LockUnit) (s : SettledUnit) (g : Grants) →
+    (t : Table) (k : ℕ) (c : Core) (u : UnitNo) (r : Register) (n : Ticket) (x : LockUnit) (s : Settled) (g : Grants) →
     x ≡ registered (unitOf t (u .0)) k r →
     s ≡ settledUnit x →
     g ≡ packed (won (u .0) (s .winner)) →
@@ -78,8 +78,8 @@ changes t k c u r n x s g ex es eg =
     let y = registered (unitOf t (u .0)) k r in
     let e : s ≡ settledUnit y = es ∙ ap settledUnit ex in
     ap (done (withCore (withUnit t (u .0) (s .unit)) k c) n) eg ∙
-    ap (λ (z : SettledUnit). done (withCore (withUnit t (u .0) (z .unit)) k c) n (packed (won (u .0) (z .winner)))) e ∙
-    ap (λ (z : Settled). done (z .table) n (packed (won (u .0) (z .winner)))) (sym (put-settled (withCore t k c) (u .0) y (there (t .units) (u .0) k r)))
+    ap (λ (z : Settled). done (withCore (withUnit t (u .0) (z .unit)) k c) n (packed (won (u .0) (z .winner)))) e ∙
+    ap (λ (z : SettledAt). done (z .table) n (packed (won (u .0) (z .winner)))) (sym (put-settled (withCore t k c) (u .0) y (there (t .units) (u .0) k r)))
 
 module _ (t : Table) (u v k : ℕ) (d : v ≢ u) where
   abbrev x : LockUnit
@@ -122,7 +122,7 @@ module _ (t : Table) (u v k : ℕ) (d : v ≢ u) where
 
 -- two units, from what the calls give
 pub frees :
-    (t : Table) (k : ℕ) (c : Core) (u v : UnitNo) (n : Ticket) (p q : LockUnit) (s z : SettledUnit) (g : Grants) →
+    (t : Table) (k : ℕ) (c : Core) (u v : UnitNo) (n : Ticket) (p q : LockUnit) (s z : Settled) (g : Grants) →
     u .0 < v .0 →
     p ≡ registered (unitOf t (u .0)) k blank →
     q ≡ registered (unitOf t (v .0)) k blank →
@@ -139,7 +139,7 @@ frees t k c u v n p q s z g l ep eq es ez eg =
     let a = registered (unitOf t (u .0)) k blank in
     let b = registered (unitOf t (v .0)) k blank in
     ap (done (withCore (withUnit (withUnit t (u .0) (s .unit)) (v .0) (z .unit)) k c) n) eg ∙
-    ap (λ (m : SettledUnit). done (withCore (withUnit (withUnit t (u .0) (m .unit)) (v .0) (z .unit)) k c) n (packed (won (u .0) (m .winner) ++ won (v .0) (z .winner)))) (es ∙ ap settledUnit ep) ∙
-    ap (λ (m : SettledUnit). done (withCore (withUnit (withUnit t (u .0) (settledUnit a .unit)) (v .0) (m .unit)) k c) n (packed (won (u .0) (settledUnit a .winner) ++ won (v .0) (m .winner)))) (ez ∙ ap settledUnit eq) ∙
-    ap (λ (m : Settled). done (m .table) n (packed (won (u .0) (settledUnit a .winner) ++ won (v .0) (m .winner)))) (sym (second-settles t' (u .0) (v .0) k d (settledUnit a .unit))) ∙
-    ap (λ (m : Settled). done (settleAt (m .table) (v .0) .table) n (packed (won (u .0) (m .winner) ++ won (v .0) (settleAt (m .table) (v .0) .winner)))) (sym (first-settles t' (u .0) (v .0) k d))
+    ap (λ (m : Settled). done (withCore (withUnit (withUnit t (u .0) (m .unit)) (v .0) (z .unit)) k c) n (packed (won (u .0) (m .winner) ++ won (v .0) (z .winner)))) (es ∙ ap settledUnit ep) ∙
+    ap (λ (m : Settled). done (withCore (withUnit (withUnit t (u .0) (settledUnit a .unit)) (v .0) (m .unit)) k c) n (packed (won (u .0) (settledUnit a .winner) ++ won (v .0) (m .winner)))) (ez ∙ ap settledUnit eq) ∙
+    ap (λ (m : SettledAt). done (m .table) n (packed (won (u .0) (settledUnit a .winner) ++ won (v .0) (m .winner)))) (sym (second-settles t' (u .0) (v .0) k d (settledUnit a .unit))) ∙
+    ap (λ (m : SettledAt). done (settleAt (m .table) (v .0) .table) n (packed (won (u .0) (m .winner) ++ won (v .0) (settleAt (m .table) (v .0) .winner)))) (sym (first-settles t' (u .0) (v .0) k d))

@@ -13,10 +13,10 @@ use Rattle.parts.specs.State.{isIdle, stands, twoStage}
 use Rattle.parts.specs.Parts.{cores, units, blank, registerIn}
 use Rattle.block.specs.Table.{coreOf, unitOf, registerOf, unitCount}
 use Rattle.parts.specs.Range.{inRange, perClass}
-use Rattle.plan.specs.Settle.{flags}
+use Rattle.settling.specs.Line.{flags}
 use Rattle.block.specs.Sound as S
 use Rattle.block.specs.Parts.{Sound}
-use Rattle.block.specs.Touched.{Calm, CalmTable}
+use Rattle.block.proofs.Touched.{Calm, CalmTable}
 use Rattle.parts.specs.declared.kinds.Register.{Register}
 use Rattle.parts.specs.declared.kinds.LockUnit.{LockUnit}
 use Rattle.parts.specs.declared.kinds.Core.{Core}
@@ -24,7 +24,7 @@ use Rattle.parts.specs.declared.kinds.Counts.{Counts}
 use Rattle.block.specs.declared.table.Table.{Table}
 use Rattle.parts.proofs.Bools.{and-left, and-right, or-cases, not-true-false, clash}
 use Rattle.parts.proofs.Folds.{some-none}
-use Rattle.block.proofs.Picking.{next-nobody}
+use Rattle.settling.proofs.Picking.{next-nobody}
 
 -- counts
 
@@ -62,7 +62,7 @@ and-no : (a b : Bool) → b ≡ false → (a && b) ≡ false
 and-no true b e = e
 and-no false b e = refl
 
-no-and : (a b : Bool) → a ≡ false → (a && b) ≡ false
+pub no-and : (a b : Bool) → a ≡ false → (a && b) ≡ false
 no-and true b e = absurd (clash refl e)
 no-and false b e = refl
 
@@ -120,7 +120,7 @@ module _ (t : Table) (s : Sound t) (k : ℕ) (h : k < cores) where
 
 -- a unit of a sound table has nothing to settle: without a flag it has no valid register
 
-one-none : (b : Bool) → 0 ≡ one b → b ≡ false
+pub one-none : (b : Bool) → 0 ≡ one b → b ≡ false
 one-none true e = absurd (let z : _≡_ {A = ℕ} 0 1 = e in omega arith)
 one-none false e = refl
 

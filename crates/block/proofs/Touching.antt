@@ -12,23 +12,22 @@ use borrow.Author.Tests.{eqb-true, eqb-false}
 use Rattle.ticket.specs.declared.kinds.Ticket.{Ticket}
 use Rattle.ticket.specs.declared.kinds.UnitNo.{UnitNo}
 use Rattle.parts.specs.Fold.{upTo}
-use Rattle.parts.specs.Parts.{cores, units, blank, flagged, noUnit}
+use Rattle.parts.specs.Parts.{cores, units, blank, flagged, absentUnit}
 use Rattle.block.specs.Table.{unitOf, registerOf, withUnit, withRegister}
 use Rattle.parts.specs.Answer.{packed}
-use Rattle.plan.specs.Settle.{flags, inLine, next, won}
-use Rattle.block.specs.Settle.{give, settleAt, Settling, settleNext, settle}
+use Rattle.settling.specs.Line.{flags, inLine, next, won}
+use Rattle.block.specs.Settle.{give, settleAt, Settling, settleNext, settle, SettledAt}
 use Rattle.block.specs.Steps.{settled, clear, giveUp}
-use Rattle.block.specs.Touched.{Calm, CalmTable, unsettled, settledOne, settledTwo}
+use Rattle.block.proofs.Touched.{Calm, CalmTable, unsettled, settledOne, settledTwo}
 use Rattle.parts.specs.declared.kinds.Register.{Register}
 use Rattle.parts.specs.declared.kinds.LockUnit.{LockUnit}
 use Rattle.block.specs.declared.table.Table.{Table}
-use Rattle.block.specs.declared.table.Settled.{Settled}
-use Rattle.plan.specs.declared.settle.Best.{Best}
-use Rattle.plan.specs.declared.settle.Best.the-variants.{Nobody, Core as Won}
+use Rattle.settling.specs.declared.line.Best.{Best}
+use Rattle.settling.specs.declared.line.Best.the-variants.{Nobody, Won}
 use Rattle.parts.specs.declared.answer.Answer.{Answer}
 use Rattle.block.specs.declared.stepped.Stepped.{Stepped}
 use Rattle.block.proofs.Access.{unit-other, register-unit}
-use Rattle.block.proofs.Picking.{next-won}
+use Rattle.settling.proofs.Picking.{next-won}
 
 -- a fold that stands still from a on is at n what it was at a
 pub still :
@@ -79,7 +78,7 @@ settleAt-calm t u calm = go (eqb (flags (unitOf t u)) 0) refl
     go false e = refl
 
 -- one more unit, by what it settled to
-after : Settling → ℕ → Settled → Settling
+after : Settling → ℕ → SettledAt → Settling
 after s u z = record { table = z .table; grants = s .grants ++ won u (z .winner) }
 
 calm-still : (s : Settling) (u : ℕ) → Calm (unitOf (s .table) u) → settleNext u s ≡ s
@@ -159,7 +158,7 @@ clear-blank : (t : Table) (k u : ℕ) → registerOf t u k ≡ blank → clear k
 clear-blank t k u e =
     ap (λ (r : Register). withRegister t u k r) (sym e) ∙
     ap (λ (l : List Register). withUnit t u (record { registers = l })) (set-getD (unitOf t u .registers) k blank) ∙
-    ap (λ (l : List LockUnit). record { units = l; cores = t .cores; counts = t .counts; counter = t .counter }) (set-getD (t .units) u noUnit)
+    ap (λ (l : List LockUnit). record { units = l; cores = t .cores; counts = t .counts; counter = t .counter }) (set-getD (t .units) u absentUnit)
 
 module _ (t : Table) (k f : ℕ) where
   abbrev first-cleared : Table

@@ -1,8 +1,7 @@
-pub mod PutBack
 pub mod Table
-pub mod Verdict
 pub mod Settle
 pub mod Sound
 pub mod Parts
 pub mod Steps
-pub mod Touched
+pub mod PutBack
+pub mod Over

@@ -7,20 +7,24 @@ use lib.Dec.{eqb}
 use Rattle.ticket.specs.declared.kinds.Grant.{Grant}
 use Rattle.parts.specs.Fold.{upTo}
 use Rattle.parts.specs.Parts.{units, flagged}
-use Rattle.plan.specs.Settle.{flags, next, won}
-use Rattle.plan.specs.declared.settle.Best.{Best}
-use Rattle.plan.specs.declared.settle.Best.the-variants.{Nobody, Core}
+use Rattle.settling.specs.Line.{flags, next, won}
+use Rattle.settling.specs.declared.line.Best.{Best}
+use Rattle.settling.specs.declared.line.Best.the-variants.{Nobody, Won}
 use Rattle.block.specs.Table.{unitOf, registerOf, withRegister}
 use Rattle.block.specs.declared.table.Table.{Table}
-use Rattle.block.specs.declared.table.Settled.{Settled}
+
+-- a table of which one unit settled, and the core that it granted
+pub record SettledAt : Type 0 where
+  pub table : Table
+  pub winner : Best
 
 -- the flag of the core that won is set
-abbrev pub give : Table → ℕ → Best → Settled
+abbrev pub give : Table → ℕ → Best → SettledAt
 give t u Nobody = record { table = t; winner = Nobody }
-give t u (Core k n) = record { table = withRegister t u (k .0) (flagged (registerOf t u (k .0))); winner = Core k n }
+give t u (Won k n) = record { table = withRegister t u (k .0) (flagged (registerOf t u (k .0))); winner = Won k n }
 
 -- one unit settles
-abbrev pub settleAt : Table → ℕ → Settled
+abbrev pub settleAt : Table → ℕ → SettledAt
 settleAt t u = cond (eqb (flags (unitOf t u)) 0) (give t u (next (unitOf t u))) (give t u Nobody)
 
 -- the table so far, and its grants by rising unit

@@ -1,16 +1,16 @@
--- "Sound. A table is sound when: .." The clauses stand in soundness' Sound and agreement's Agreement: here the table is read for them.
+-- "Sound. A table is sound when: .." The clauses stand in soundness: here the table is read for them.
 use Prim.Native.Nat.{ℕ}
 use mathlib.Core.Bool.{Bool, _&&_}
 use Rattle.parts.specs.Fold.{every}
 use Rattle.parts.specs.Parts.{cores, units}
 use Rattle.parts.specs.Range.{inRange}
 use Rattle.parts.specs.declared.kinds.Core.{Core}
-use Rattle.agreement.specs.Agreement as A
+use Rattle.soundness.specs.Agreement as A
 use Rattle.soundness.specs.Sound as S
 use Rattle.block.specs.Table.{coreOf, unitOf}
 use Rattle.block.specs.declared.table.Table.{Table}
 -- what speaks of no table
-pub use Rattle.agreement.specs.Agreement.{isBlank, shows, agrees, anyValid, oneFlag}
+pub use Rattle.soundness.specs.Agreement.{isBlank, shows, agrees, anyValid, oneFlag}
 pub use Rattle.soundness.specs.Sound.{idleBlank, lends}
 
 abbrev pub within : Table → ℕ → Bool

@@ -3,7 +3,7 @@ use mathlib.Core.List.{List}
 use Prim.Native.Nat.{ℕ, _+_}
 use lib.ListN.{getD, set}
 use Rattle.ticket.specs.declared.kinds.Ticket.{Ticket}
-use Rattle.parts.specs.Parts.{idle, noUnit, registerIn}
+use Rattle.parts.specs.Parts.{idle, absentUnit, registerIn, registered}
 use Rattle.parts.specs.declared.kinds.Register.{Register}
 use Rattle.parts.specs.declared.kinds.LockUnit.{LockUnit}
 use Rattle.parts.specs.declared.kinds.Core.{Core}
@@ -13,7 +13,7 @@ abbrev pub coreOf : Table → ℕ → Core
 coreOf t k = getD (t .cores) k idle
 
 abbrev pub unitOf : Table → ℕ → LockUnit
-unitOf t u = getD (t .units) u noUnit
+unitOf t u = getD (t .units) u absentUnit
 
 abbrev pub registerOf : Table → ℕ → ℕ → Register
 registerOf t u k = registerIn (unitOf t u) k
@@ -29,7 +29,7 @@ abbrev pub withUnit : Table → ℕ → LockUnit → Table
 withUnit t u x = withUnits t (set (t .units) u x)
 
 abbrev pub withRegister : Table → ℕ → ℕ → Register → Table
-withRegister t u k r = withUnit t u (record { registers = set (unitOf t u .registers) k r })
+withRegister t u k r = withUnit t u (registered (unitOf t u) k r)
 
 abbrev pub withCore : Table → ℕ → Core → Table
 withCore t k c = record { units = t .units; cores = set (t .cores) k c; counts = t .counts; counter = t .counter }

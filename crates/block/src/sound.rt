@@ -1,9 +1,10 @@
 // Soundness of any table whatsoever.
 use crate::table::Table;
-use agreement::unit_sound;
 use parts::UNITS;
 use parts::in_range;
 use soundness::cores_sound;
+use soundness::unit_sound;
+use ticket::UnitNo;
 ghost use mathlib.Core.Path.{_≡_};
 ghost use Rattle.parts.specs.Fold.{every};
 ghost use Rattle.parts.specs.Parts.{units};
@@ -24,12 +25,13 @@ impl Table {
         ensures { λ r. ⌜ r ≡ every (unitSound self) units ⌝ }
     {
         let mut ok = true;
-        let mut u = 0;
-        while u < UNITS {
+        let mut i = 0;
+        while i < UNITS {
             let all = self.cores;
-            let x = self.units[u];
-            ok = ok & unit_sound(all, u, x);
-            u += 1;
+            let x = self.units[i];
+            let u = i as u16;
+            ok = ok & unit_sound(all, UnitNo(u), x);
+            i += 1;
         }
         ok
     }

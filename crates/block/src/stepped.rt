@@ -4,7 +4,7 @@ use parts::Answer;
 use parts::Grants;
 use ticket::Ticket;
 ghost use mathlib.Core.Path.{_≡_};
-ghost use Rattle.block.specs.Verdict.{refusal};
+ghost use Rattle.block.specs.Steps.{refusal};
 
 // The next table, and what the tester must see: the answer, the ticket and the grants.
 pub struct Stepped {

@@ -1,27 +1,23 @@
-// The steps: methods of the table, which hand back the next table with what the tester must see.
+// The steps of a table: it is read at a step's places, and what is planned of them is put back.
 use crate::stepped::Stepped;
 use crate::stepped::refused;
 use crate::table::Table;
 use parts::Answer;
-use parts::Register;
 use parts::Step;
-use places::Flags;
-use places::core_of;
-use places::flagged;
-use places::flags_of;
-use places::other_of;
-use places::unit_of;
+use places::core_place;
+use places::other_place;
+use places::unit_place;
 use plan::Plan;
 use plan::plan_step;
+use ticket::CoreNo;
+use ticket::UnitNo;
 ghost use mathlib.Core.Bool.{true};
 ghost use mathlib.Core.Path.{_≡_};
 ghost use Prim.Native.Nat.{_<_};
 ghost use Rattle.parts.specs.Parts.{cores, units};
-ghost use Rattle.places.specs.Places.{Placed};
-ghost use Rattle.block.specs.Table.{withUnits};
 ghost use Rattle.block.specs.Sound.{sound};
 ghost use Rattle.block.specs.Steps.{onSound, step};
-ghost use Rattle.block.specs.PutBack.{flagAt, flagsSet, put, steppedBy};
+ghost use Rattle.block.specs.PutBack.{putBack};
 
 impl Table {
     // One step. A table that is not sound is refused with 16.
@@ -41,24 +37,30 @@ impl Table {
         requires { ⌜ sound self ≡ true ⌝ }
         ensures { λ r. ⌜ r ≡ onSound self s ⌝ }
     {
+        let k = core_place(s);
+        let at = k.0 as usize;
+        let c = self.cores[at];
+        let i = unit_place(s, c);
+        let j = other_place(s, c);
+        let first = i.0 as usize;
+        let second = j.0 as usize;
+        let x = self.units[first];
+        let y = self.units[second];
         let counts = self.counts;
         let counter = self.counter;
         let all = self.cores;
-        let k = core_of(s);
-        let c = all[k];
-        let i = unit_of(s, c);
-        let j = other_of(s, c);
-        let x = self.units[i];
-        let y = self.units[j];
         let p = plan_step(s, counts, counter, all, c, x, y);
-        self.stepped_by(k, i, j, p)
+        self.put_back(k, i, j, p)
     }
 
-    // The plan p put back: core k, its registers at units i and j, the flags of the grants, the counter.
-    fn stepped_by(self, k: usize, i: usize, j: usize, p: Plan) -> Stepped
-        requires { ⌜ (k < cores) × (i < units) × (j < units) ⌝ }
-        ensures { λ r. ⌜ r ≡ steppedBy self k i j p ⌝ }
+    // The plan p put back: the unit j before i, since where both are the same it is the unit unchanged.
+    fn put_back(mut self, k: CoreNo, i: UnitNo, j: UnitNo, p: Plan) -> Stepped
+        requires { ⌜ (k .0 < cores) × (i .0 < units) × (j .0 < units) ⌝ }
+        ensures { λ r. ⌜ r ≡ putBack self k i j p ⌝ }
     {
+        let at = k.0 as usize;
+        let one = i.0 as usize;
+        let other = j.0 as usize;
         let first = p.first;
         let second = p.second;
         let core = p.core;
@@ -66,49 +68,15 @@ impl Table {
         let ticket = p.ticket;
         let grants = p.grants;
         let answer = p.answer;
-        let mut table = self.put(i, k, first)
-            .put(j, k, second)
-            .granted(flags_of(grants));
-        table.cores[k] = core;
-        table.counter = counter;
+        self.units[other] = second;
+        self.units[one] = first;
+        self.cores[at] = core;
+        self.counter = counter;
         Stepped {
-            table,
+            table: self,
             answer,
             ticket,
             grants,
-        }
-    }
-
-    // The register of core k at unit i becomes r.
-    fn put(mut self, i: usize, k: usize, r: Register) -> Table
-        requires { ⌜ (i < units) × (k < cores) ⌝ }
-        ensures { λ t. ⌜ t ≡ withUnits self (put (self .units) i k r) ⌝ }
-    {
-        let mut x = self.units[i];
-        x.registers[k] = r;
-        self.units[i] = x;
-        self
-    }
-
-    // The flag of core k at unit i is set.
-    fn flag_at(self, i: usize, k: usize) -> Table
-        requires { ⌜ (i < units) × (k < cores) ⌝ }
-        ensures { λ t. ⌜ t ≡ withUnits self (flagAt (self .units) i k) ⌝ }
-    {
-        let x = self.units[i];
-        let r = x.registers[k];
-        self.put(i, k, flagged(r))
-    }
-
-    // The flags of grants are set.
-    fn granted(self, f: Flags) -> Table
-        requires { ⌜ Placed f ⌝ }
-        ensures { λ t. ⌜ t ≡ withUnits self (flagsSet (self .units) f) ⌝ }
-    {
-        match f {
-            Flags::None => self,
-            Flags::One(u, k) => self.flag_at(u, k),
-            Flags::Two(u, k, v, j) => self.flag_at(u, k).flag_at(v, j),
         }
     }
 }

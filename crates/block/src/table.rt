@@ -7,7 +7,6 @@ use parts::Core;
 use parts::Counts;
 use parts::LockUnit;
 use parts::UNITS;
-use plan::Best;
 use ticket::Ticket;
 
 pub struct Table {
@@ -15,10 +14,4 @@ pub struct Table {
     pub cores: [Core; CORES],
     pub counts: Counts,
     pub counter: Ticket,
-}
-
-// A table of which one unit settled, and the core that it granted: the specification speaks of it.
-pub struct Settled {
-    pub table: Table,
-    pub winner: Best,
 }

@@ -5,7 +5,7 @@ use mathlib.Core.Bool.{cond}
 use lib.ListN.{replicate}
 use Rattle.ticket.specs.Kinds.{ticket}
 use Rattle.ticket.specs.declared.kinds.Ticket.{Ticket}
-use Rattle.parts.specs.Parts.{cores, units, blank, idle}
+use Rattle.parts.specs.Parts.{cores, units, emptyUnit, idle}
 use Rattle.parts.specs.Range.{inRange}
 use Rattle.parts.specs.declared.kinds.Counts.{Counts}
 use Rattle.parts.specs.declared.answer.Answer.the-variants.{Done, OutOfRange}
@@ -15,7 +15,7 @@ use Rattle.building.specs.declared.building.Built.{Built}
 abbrev pub fresh : Counts → Ticket → Table
 fresh c n =
     record {
-      units = replicate units (record { registers = replicate cores blank });
+      units = replicate units emptyUnit;
       cores = replicate cores idle;
       counts = c;
       counter = n;

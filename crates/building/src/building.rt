@@ -3,9 +3,8 @@ use block::Table;
 use parts::Answer;
 use parts::CORES;
 use parts::Counts;
-use parts::LockUnit;
 use parts::UNITS;
-use parts::blank;
+use parts::empty_unit;
 use parts::idle;
 use parts::in_range;
 use ticket::Ticket;
@@ -22,10 +21,7 @@ pub struct Built {
 fn fresh(counts: Counts, counter: Ticket) -> Table
     ensures { λ r. ⌜ r ≡ fresh counts counter ⌝ }
 {
-    let r = blank();
-    let x = LockUnit {
-        registers: [r; CORES],
-    };
+    let x = empty_unit();
     let c = idle();
     Table {
         units: [x; UNITS],

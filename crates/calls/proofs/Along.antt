@@ -12,7 +12,7 @@ use Rattle.digits.specs.Room.{fits}
 use Rattle.calls.specs.Call.{Desk, Ended, turn, halted, lines, translated}
 use Rattle.stops.specs.declared.run.Stop.{Stop}
 use Rattle.stops.specs.declared.run.Stop.the-variants.{NoRoom}
-use Rattle.calls.proofs.Asked.{Reply, asked, after, asked-within, turn-on, turn-full, turn-halt}
+use Rattle.calls.proofs.Asked.{Reply, asked, replied, asked-within, turn-on, turn-full, turn-halt}
 
 -- the next line is answered with a, and that fits
 pub record Goes (d : Desk) (s : List ℕ) (a : Reply) : Type 0 where
@@ -32,7 +32,7 @@ pub halts-turn : (d : Desk) (s : List ℕ) (why : Stop) → Halts d s why → tu
 halts-turn d s why (inl e) = turn-halt d s why e
 halts-turn d s why (inr (a, w, is)) = subst (λ (y : Stop). turn d s ≡ inr y) (sym is) (turn-full d s a (w .asks) (w .full))
 
-pub goes-turn : (d : Desk) (s : List ℕ) (a : Reply) → Goes d s a → turn d s ≡ inl (after d a)
+pub goes-turn : (d : Desk) (s : List ℕ) (a : Reply) → Goes d s a → turn d s ≡ inl (replied d a)
 goes-turn d s a w = turn-on d s a (w .asks) (w .room)
 
 -- the next line goes one way or the other
@@ -54,7 +54,7 @@ next-line d s = go (asked (d .run) s) refl
 
 module _
     (s : List ℕ) (P : Desk → Ended → Type 0) (stands : (d : Desk) (why : Stop) → Halts d s why → P d (halted d why))
-    (line : (d : Desk) (a : Reply) (e : Ended) → Goes d s a → P (after d a) e → P d e) where
+    (line : (d : Desk) (a : Reply) (e : Ended) → Goes d s a → P (replied d a) e → P d e) where
   along-lines : (f : ℕ) (d : Desk) → length s - d .run .place < f → P d (lines f d s)
   unfolding lines
   along-lines zero d h = absurd (not-suc-le-zero h)
@@ -67,7 +67,7 @@ module _
       go (inl (a, w)) later =
           let k = asked-within (d .run) s a (w .asks) in
           subst (λ (t : Desk ⊎ Stop). P d (⊎-elim (λ (next : Desk). lines f next s) (halted d) t)) (sym (goes-turn d s a w))
-          (line d a (lines f (after d a) s) w (later (after d a) (omega arith)))
+          (line d a (lines f (replied d a) s) w (later (replied d a) (omega arith)))
       go (inr (why, w)) later =
           subst (λ (t : Desk ⊎ Stop). P d (⊎-elim (λ (next : Desk). lines f next s) (halted d) t)) (sym (halts-turn d s why w)) (stands d why w)
 

@@ -28,8 +28,8 @@ use Rattle.lines.specs.declared.reading.StepLine.the-variants.{Line, Finished a
 use Rattle.headers.specs.declared.reading.HeaderLine.{HeaderLine}
 use Rattle.headers.specs.declared.reading.HeaderLine.the-variants.{Header, BadHeader as NoHeader, Unfinished as CutHeader}
 use Rattle.stops.specs.Run.{stepsMost, stopNumber}
-use Rattle.stops.specs.Due.{judged, due}
-use Rattle.calls.specs.Call.{Desk, runAt, worked, opened, turn}
+use Rattle.stops.specs.Due.{lineDue, due}
+use Rattle.calls.specs.Call.{Desk, runAt, worked, opening, turn}
 use Rattle.stops.specs.declared.todo.Todo.{Todo}
 use Rattle.stops.specs.declared.todo.Todo.the-variants.{Work, Stop as Halt}
 use Rattle.stops.specs.declared.run.Run.{Run}
@@ -70,7 +70,7 @@ replyHeader r CutHeader = inr Unfinished
 -- by each test and each reading by itself
 abbrev askedBy : Run → Bool → Bool → Bool → StepLine → Bool → HeaderLine → Reply ⊎ Stop
 askedBy r headed past many line fit head =
-    cond headed (replyTo r (cond past (Halt Finished) (cond many (Halt TooMany) (judged line fit)))) (replyHeader r head)
+    cond headed (replyTo r (cond past (Halt Finished) (cond many (Halt TooMany) (lineDue line fit)))) (replyHeader r head)
 
 -- the next line's reply, or why the run stops there whatever the room
 pub asked : Run → List ℕ → Reply ⊎ Stop
@@ -82,12 +82,12 @@ asked r s =
 abbrev pub ran : Run → Reply → Run
 ran r a = runAt (a .next) (r .wrote + length (a .bytes)) (a .table) (a .steps)
 
-abbrev pub after : Desk → Reply → Desk
-after d a = record { run = ran (d .run) a; out = pasted (d .out) (d .run .wrote) (a .bytes) }
+abbrev pub replied : Desk → Reply → Desk
+replied d a = record { run = ran (d .run) a; out = pasted (d .out) (d .run .wrote) (a .bytes) }
 
 -- it is written if it fits
 abbrev pub ifFits : Desk → Reply → Desk ⊎ Stop
-ifFits d a = cond (fits (d .out) (d .run .wrote) (a .bytes)) (inl (after d a)) (inr NoRoom)
+ifFits d a = cond (fits (d .out) (d .run .wrote) (a .bytes)) (inl (replied d a)) (inr NoRoom)
 
 -- A turn is what is asked, written if it fits
 
@@ -96,10 +96,10 @@ module _ (d : Desk) where
   worked-is (Work x next) = refl
   worked-is (Halt why) = refl
 
-  opened-is : (w : HeaderLine) → opened d w ≡ ⊎-elim (ifFits d) inr (replyHeader (d .run) w)
-  opened-is (Header c n next) = refl
-  opened-is NoHeader = refl
-  opened-is CutHeader = refl
+  opening-is : (w : HeaderLine) → opening d w ≡ ⊎-elim (ifFits d) inr (replyHeader (d .run) w)
+  opening-is (Header c n next) = refl
+  opening-is NoHeader = refl
+  opening-is CutHeader = refl
 
   either-is :
       (b : Bool) (x y : Desk ⊎ Stop) (v w : Reply ⊎ Stop) →
@@ -114,15 +114,15 @@ module _ (d : Desk) where
   turn-is s =
       let todo = due s (d .run .place) (d .run .steps) (sound (d .run .table)) in
       let head = readHeader s (d .run .place) in
-      either-is (d .run .headed) (worked d todo) (opened d head) (replyTo (d .run) todo) (replyHeader (d .run) head) (worked-is todo) (opened-is head)
+      either-is (d .run .headed) (worked d todo) (opening d head) (replyTo (d .run) todo) (replyHeader (d .run) head) (worked-is todo) (opening-is head)
 
 -- the next line, by what it asks and whether that fits
 module _ (d : Desk) (s : List ℕ) where
-  pub turn-on : (a : Reply) → asked (d .run) s ≡ inl a → fits (d .out) (d .run .wrote) (a .bytes) ≡ true → turn d s ≡ inl (after d a)
-  turn-on a e f = turn-is d s ∙ ap (⊎-elim (ifFits d) inr) e ∙ ap (λ (b : Bool). cond b (inl (after d a)) (inr NoRoom)) f
+  pub turn-on : (a : Reply) → asked (d .run) s ≡ inl a → fits (d .out) (d .run .wrote) (a .bytes) ≡ true → turn d s ≡ inl (replied d a)
+  turn-on a e f = turn-is d s ∙ ap (⊎-elim (ifFits d) inr) e ∙ ap (λ (b : Bool). cond b (inl (replied d a)) (inr NoRoom)) f
 
   pub turn-full : (a : Reply) → asked (d .run) s ≡ inl a → fits (d .out) (d .run .wrote) (a .bytes) ≡ false → turn d s ≡ inr NoRoom
-  turn-full a e f = turn-is d s ∙ ap (⊎-elim (ifFits d) inr) e ∙ ap (λ (b : Bool). cond b (inl (after d a)) (inr NoRoom)) f
+  turn-full a e f = turn-is d s ∙ ap (⊎-elim (ifFits d) inr) e ∙ ap (λ (b : Bool). cond b (inl (replied d a)) (inr NoRoom)) f
 
   pub turn-halt : (why : Stop) → asked (d .run) s ≡ inr why → turn d s ≡ inr why
   turn-halt why e = turn-is d s ∙ ap (⊎-elim (ifFits d) inr) e
@@ -162,7 +162,7 @@ module _ (r : Run) (s : List ℕ) where
       leb stepsMost (r .steps) ≡ b →
       sound (r .table) ≡ fit →
       readStep s (r .place) ≡ w →
-      Asks r s (replyTo r (cond a (Halt Finished) (cond b (Halt TooMany) (judged w fit))))
+      Asks r s (replyTo r (cond a (Halt Finished) (cond b (Halt TooMany) (lineDue w fit))))
   due-asks h true b fit w p q k e = λ is. other Finished (omega arith) is
   due-asks h false true fit w p q k e = λ is. other TooMany (omega arith) is
   due-asks h false false true (Line x next) p q k e =

@@ -15,7 +15,7 @@ use Rattle.stops.specs.declared.run.Run.{Run}
 use Rattle.stops.specs.declared.run.Stop.{Stop}
 use Rattle.stops.specs.declared.run.Stop.the-variants.{NoRoom}
 use Rattle.calls.proofs.Pasting.{fits-says, pasted-nothing, pasted-twice}
-use Rattle.calls.proofs.Asked.{Reply, asked, ran, after, asked-other, asked-within, asked-more, runOn, replyOn, askedOn, asked-on}
+use Rattle.calls.proofs.Asked.{Reply, asked, ran, replied, asked-other, asked-within, asked-more, runOn, replyOn, askedOn, asked-on}
 use Rattle.calls.proofs.Along.{Goes, Halts, along}
 use Rattle.calls.proofs.Kept.{leaves, length-kept}
 
@@ -138,7 +138,7 @@ stretch d s =
       out = sym (pasted-nothing (d .out) (d .run .wrote));
       ends = w;
     })
-    (λ (d : Desk) (a : Reply) (e : Ended) (w : Goes d s a) (later : Stretch (after d a) s e).
+    (λ (d : Desk) (a : Reply) (e : Ended) (w : Goes d s a) (later : Stretch (replied d a) s e).
     let h = fits-says (d .out) (d .run .wrote) (a .bytes) (w .room) in
     record {
       replies = a ∷ later .replies;

@@ -14,6 +14,7 @@ use Rattle.ticket.specs.declared.kinds.Ticket.{Ticket}
 use Rattle.parts.proofs.Bools.{clash}
 use Rattle.parts.specs.Range.{inRange}
 use Rattle.building.specs.Build.{build}
+use Rattle.block.specs.Over.{over}
 use Rattle.parts.specs.declared.answer.Step.{Step}
 use Rattle.parts.specs.declared.kinds.Counts.{Counts}
 use Rattle.lines.specs.Bytes.{letterT}
@@ -21,11 +22,11 @@ use Rattle.digits.specs.Text.{pasted}
 use Rattle.writing.specs.Writing.{stepBytes, headerBytes}
 use Rattle.writing.proofs.AsWritten.{step-read-is-written, header-read-is-written}
 use Rattle.calls.specs.Call.{Desk, Ended, halted, translated}
-use Rattle.calls.specs.Columns.{script, tableAfter, columns, Columned, Opened, Untouched}
+use Rattle.calls.specs.Columns.{script, columns, Columned, Opened, Untouched}
 use Rattle.stops.specs.declared.run.Stop.{Stop}
 use Rattle.calls.proofs.Fuel.{on, stop}
 use Rattle.calls.proofs.Pasting.{fits-says, pasted-nothing, pasted-twice}
-use Rattle.calls.proofs.Asked.{Reply, Stepping, Opening, stepReply, headerReply, after, asked-says}
+use Rattle.calls.proofs.Asked.{Reply, Stepping, Opening, stepReply, headerReply, replied, asked-says}
 use Rattle.calls.proofs.Along.{Goes, Halts, goes-turn, halts-turn, next-line, along}
 
 -- the line's bytes come off the script
@@ -43,10 +44,10 @@ line-off s line at next t e =
 -- the reply's line and the lines after it
 module _ (d : Desk) (s : List ℕ) (a : Reply) (w : Goes d s a) (e : Ended) (ys : List ℕ) where
   one-more-wrote :
-      e .stopped .run .wrote ≡ after d a .run .wrote + length ys → e .stopped .run .wrote ≡ d .run .wrote + length (a .bytes ++ ys)
+      e .stopped .run .wrote ≡ replied d a .run .wrote + length ys → e .stopped .run .wrote ≡ d .run .wrote + length (a .bytes ++ ys)
   one-more-wrote p = p ∙ omega (arith, length-append (a .bytes) ys)
 
-  one-more-out : e .out ≡ pasted (after d a .out) (after d a .run .wrote) ys → e .out ≡ pasted (d .out) (d .run .wrote) (a .bytes ++ ys)
+  one-more-out : e .out ≡ pasted (replied d a .out) (replied d a .run .wrote) ys → e .out ≡ pasted (d .out) (d .run .wrote) (a .bytes ++ ys)
   one-more-out p =
       let h = fits-says (d .out) (d .run .wrote) (a .bytes) (w .room) in
       p ∙ pasted-twice (d .out) (d .run .wrote) (a .bytes) (omega arith) ys
@@ -54,7 +55,7 @@ module _ (d : Desk) (s : List ℕ) (a : Reply) (w : Goes d s a) (e : Ended) (ys 
 -- Steps
 
 none-worked : (d : Desk) (s : List ℕ) (why : Stop) → d .run .headed ≡ true → Columned d s (halted d why)
-unfolding script tableAfter columns
+unfolding script over
 none-worked d s why h =
     record {
       worked = [];
@@ -73,9 +74,9 @@ one-worked :
     Goes d s a →
     drop (d .run .place) s ≡ stepBytes x ++ drop next s →
     next ≡ d .run .place + length (stepBytes x) →
-    Columned (after d a) s e →
+    Columned (replied d a) s e →
     Columned d s e
-unfolding script tableAfter columns
+unfolding script over
 one-worked d s x next e w off p later =
     let a = stepReply (d .run) x next in
     let ys = columns (d .run .steps + 1) (a .table) (later .worked) in
@@ -91,12 +92,12 @@ one-worked d s x next e w off p later =
     }
 
 stepping-worked :
-    (d : Desk) (s : List ℕ) (a : Reply) (e : Ended) → Goes d s a → Stepping (d .run) s a → Columned (after d a) s e → Columned d s e
+    (d : Desk) (s : List ℕ) (a : Reply) (e : Ended) → Goes d s a → Stepping (d .run) s a → Columned (replied d a) s e → Columned d s e
 stepping-worked d s a e w y later =
     let k = step-read-is-written s (d .run .place) (y .x) (a .next) (y .read) in
     one-worked d s (y .x) (a .next) e (subst (Goes d s) (y .is) w)
     (line-off s (stepBytes (y .x)) (d .run .place) (a .next) (k .0) (k .1)) (k .1)
-    (subst (λ (z : Reply). Columned (after d z) s e) (y .is) later)
+    (subst (λ (z : Reply). Columned (replied d z) s e) (y .is) later)
 
 pub columns-written : (d : Desk) (s : List ℕ) → d .run .headed ≡ true → Columned d s (translated d s)
 columns-written d s =
@@ -119,7 +120,7 @@ header-worked :
     inRange c ≡ true →
     drop (d .run .place) s ≡ line ++ drop next s →
     next ≡ d .run .place + length line →
-    Columned (after d a) s e →
+    Columned (replied d a) s e →
     Opened d s e
 header-worked d s c n next e w good off p later =
     let a = headerReply (d .run) c n next in
@@ -140,12 +141,12 @@ header-worked d s c n next e w good off p later =
     }
 
 opening-worked :
-    (d : Desk) (s : List ℕ) (a : Reply) (e : Ended) → Goes d s a → Opening (d .run) s a → Columned (after d a) s e → Opened d s e
+    (d : Desk) (s : List ℕ) (a : Reply) (e : Ended) → Goes d s a → Opening (d .run) s a → Columned (replied d a) s e → Opened d s e
 opening-worked d s a e w y later =
     let k = header-read-is-written s (d .run .place) (y .c) (y .n) (a .next) (y .read) in
     header-worked d s (y .c) (y .n) (a .next) e (subst (Goes d s) (y .is) w) (k .2)
     (line-off s (headerBytes letterT (y .c) (y .n)) (d .run .place) (a .next) (k .0) (k .1)) (k .1)
-    (subst (λ (z : Reply). Columned (after d z) s e) (y .is) later)
+    (subst (λ (z : Reply). Columned (replied d z) s e) (y .is) later)
 
 pub opening-written :
     (d : Desk) (s : List ℕ) → d .run .headed ≡ false → Untouched d (translated d s) ⊎ Opened d s (translated d s)
@@ -158,7 +159,7 @@ opening-written d s h = go (next-line d s)
         Untouched d (translated d s) ⊎ Opened d s (translated d s)
     answered a w (inl y) = absurd (clash (y .headed) h)
     answered a w (inr y) =
-        inr (subst (Opened d s) (sym (on d (after d a) s (goes-turn d s a w))) (opening-worked d s a _ w y (columns-written (after d a) s refl)))
+        inr (subst (Opened d s) (sym (on d (replied d a) s (goes-turn d s a w))) (opening-worked d s a _ w y (columns-written (replied d a) s refl)))
 
     go :
         ((a : Reply) × Goes d s a) ⊎ ((why : Stop) × Halts d s why) → Untouched d (translated d s) ⊎ Opened d s (translated d s)

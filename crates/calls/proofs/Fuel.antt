@@ -36,8 +36,8 @@ use Rattle.headers.specs.declared.reading.HeaderLine.{HeaderLine}
 use Rattle.headers.specs.declared.reading.HeaderLine.the-variants.{Header, BadHeader as NoHeader, Unfinished as CutHeader}
 use Rattle.lines.proofs.Turns.{found-within}
 use Rattle.stops.specs.Run.{stepsMost}
-use Rattle.stops.specs.Due.{judged, due}
-use Rattle.calls.specs.Call.{Desk, answered, worked, opened, turn, halted, lines, translated}
+use Rattle.stops.specs.Due.{lineDue, due}
+use Rattle.calls.specs.Call.{Desk, answered, worked, opening, turn, halted, lines, translated}
 use Rattle.stops.specs.declared.todo.Todo.the-variants.{Stop as Halt}
 use Rattle.stops.specs.declared.run.Stop.{Stop}
 use Rattle.stops.specs.declared.run.Stop.the-variants.{Finished, NoRoom, TooMany}
@@ -115,7 +115,7 @@ module _ (d : Desk) (s : List ℕ) where
       TurnWithin (answered d xs next t steps)
   answered-within xs next t steps w = if-room (fits (d .out) (d .run .wrote) xs) _ w
 
-  worked-within : (w : StepLine) (fit : Bool) → LineWithin s (d .run .place) w → TurnWithin (worked d (judged w fit))
+  worked-within : (w : StepLine) (fit : Bool) → LineWithin s (d .run .place) w → TurnWithin (worked d (lineDue w fit))
   worked-within (Line x next) true h =
       let y = step (d .run .table) x in
       answered-within (expectedBytes (d .run .steps + 1) (y .answer) (y .ticket) (y .grants)) next (y .table) (d .run .steps + 1) h
@@ -124,15 +124,15 @@ module _ (d : Desk) (s : List ℕ) where
   worked-within NoStep fit h = tt
   worked-within Cut fit h = tt
 
-  opened-within : (w : HeaderLine) → HeaderWithin s (d .run .place) w → TurnWithin (opened d w)
-  opened-within (Header c n next) h = answered-within (headerBytes letterE c n) next (build c n .table) (d .run .steps) h
-  opened-within NoHeader h = tt
-  opened-within CutHeader h = tt
+  opening-within : (w : HeaderLine) → HeaderWithin s (d .run .place) w → TurnWithin (opening d w)
+  opening-within (Header c n next) h = answered-within (headerBytes letterE c n) next (build c n .table) (d .run .steps) h
+  opening-within NoHeader h = tt
+  opening-within CutHeader h = tt
 
   due-within :
       (a b fit : Bool) (w : StepLine) →
       LineWithin s (d .run .place) w →
-      TurnWithin (worked d (cond a (Halt Finished) (cond b (Halt TooMany) (judged w fit))))
+      TurnWithin (worked d (cond a (Halt Finished) (cond b (Halt TooMany) (lineDue w fit))))
   due-within true b fit w h = tt
   due-within false true fit w h = tt
   due-within false false fit w h = worked-within w fit h
@@ -143,11 +143,11 @@ module _ (d : Desk) (s : List ℕ) where
       go :
           (h : Bool) →
           TurnWithin
-          (cond h (worked d (due s (d .run .place) (d .run .steps) (sound (d .run .table)))) (opened d (readHeader s (d .run .place))))
+          (cond h (worked d (due s (d .run .place) (d .run .steps) (sound (d .run .table)))) (opening d (readHeader s (d .run .place))))
       go true =
           due-within (leb (length s) (d .run .place)) (leb stepsMost (d .run .steps)) (sound (d .run .table)) (readStep s (d .run .place))
           (line-within s (d .run .place))
-      go false = opened-within (readHeader s (d .run .place)) (head-within s (d .run .place))
+      go false = opening-within (readHeader s (d .run .place)) (head-within s (d .run .place))
 
   pub turn-within : (d' : Desk) → turn d s ≡ inl d' → (d .run .place < d' .run .place) × (d' .run .place ≤ length s)
   turn-within d' e = subst TurnWithin e turned-within

@@ -8,7 +8,7 @@ use Rattle.calls.specs.Call.{Desk, Ended, turn, translated}
 use Rattle.stops.specs.declared.run.Stop.{Stop}
 use Rattle.calls.proofs.Fuel.{on}
 use Rattle.calls.proofs.Pasting.{fits-says, fits-more, pasted-more}
-use Rattle.calls.proofs.Asked.{Reply, ran, after, turn-on, asked-more}
+use Rattle.calls.proofs.Asked.{Reply, ran, replied, turn-on, asked-more}
 use Rattle.calls.proofs.Along.{Goes, Halts, along}
 
 -- with more room after the output
@@ -19,7 +19,7 @@ abbrev again : Ended → List ℕ → Desk
 again e room = record { run = e .stopped .run; out = e .out ++ room }
 
 pub turn-roomier :
-    (d : Desk) (s more room : List ℕ) (a : Reply) → Goes d s a → turn (roomier d room) (s ++ more) ≡ inl (roomier (after d a) room)
+    (d : Desk) (s more room : List ℕ) (a : Reply) → Goes d s a → turn (roomier d room) (s ++ more) ≡ inl (roomier (replied d a) room)
 turn-roomier d s more room a w =
     let f = fits-more (d .out) room (d .run .wrote) (a .bytes) (w .room) in
     let h = fits-says (d .out) (d .run .wrote) (a .bytes) (w .room) in
@@ -35,5 +35,5 @@ goes-on d s more room =
     along s (λ (d : Desk) (e : Ended). translated (again e room) (s ++ more) ≡ translated (roomier d room) (s ++ more))
     (λ (d : Desk) (why : Stop) (w : Halts d s why). refl)
     (λ (d : Desk) (a : Reply) (e : Ended) (w : Goes d s a) later. later ∙
-    sym (on (roomier d room) (roomier (after d a) room) (s ++ more) (turn-roomier d s more room a w)))
+    sym (on (roomier d room) (roomier (replied d a) room) (s ++ more) (turn-roomier d s more room a w)))
     d

@@ -14,7 +14,7 @@ use Rattle.calls.specs.Columns.{Untouched}
 use Rattle.stops.specs.declared.run.Stop.{Stop}
 use Rattle.calls.proofs.Fuel.{stop}
 use Rattle.calls.proofs.Pasting.{fits-says, take-before, drop-after, pasted-length}
-use Rattle.calls.proofs.Asked.{Reply, after}
+use Rattle.calls.proofs.Asked.{Reply, replied}
 use Rattle.calls.proofs.Along.{Goes, Halts, halts-turn, along}
 
 -- the desk that a call leaves
@@ -47,26 +47,26 @@ module _ (d : Desk) (s : List ℕ) (a : Reply) (w : Goes d s a) where
   fit : d .run .wrote + length (a .bytes) ≤ length (d .out)
   fit = fits-says (d .out) (d .run .wrote) (a .bytes) (w .room)
 
-  after-before :
+  replied-before :
       (o : List ℕ) →
-      take (after d a .run .wrote) o ≡ take (after d a .run .wrote) (after d a .out) →
+      take (replied d a .run .wrote) o ≡ take (replied d a .run .wrote) (replied d a .out) →
       take (d .run .wrote) o ≡ take (d .run .wrote) (d .out)
-  after-before o e =
+  replied-before o e =
       let f = fit in
       let k = d .run .wrote in
       let n = d .run .wrote + length (a .bytes) in
       sym (take-take k n o (omega arith)) ∙
       ap (take k) e ∙
-      take-take k n (after d a .out) (omega arith) ∙
+      take-take k n (replied d a .out) (omega arith) ∙
       take-before (d .out) k (a .bytes) (omega arith)
 
-  after-further : (n : ℕ) → after d a .run .wrote ≤ n → drop n (after d a .out) ≡ drop n (d .out)
-  after-further n h =
+  replied-further : (n : ℕ) → replied d a .run .wrote ≤ n → drop n (replied d a .out) ≡ drop n (d .out)
+  replied-further n h =
       let f = fit in
       let k = d .run .wrote + length (a .bytes) in
       let z : k + (n - k) ≡ n = omega arith in
-      ap (λ (j : ℕ). drop j (after d a .out)) (sym z) ∙
-      sym (drop-drop (n - k) k (after d a .out)) ∙
+      ap (λ (j : ℕ). drop j (replied d a .out)) (sym z) ∙
+      sym (drop-drop (n - k) k (replied d a .out)) ∙
       ap (drop (n - k)) (drop-after (d .out) (d .run .wrote) (a .bytes) (omega arith)) ∙
       drop-drop (n - k) k (d .out) ∙
       ap (λ (j : ℕ). drop j (d .out)) z
@@ -76,14 +76,14 @@ kept d s =
     along s Kept
     (λ (d : Desk) (why : Stop) (w : Halts d s why).
     record { onward = le-refl (d .run .wrote); size = refl; before = refl; further = refl })
-    (λ (d : Desk) (a : Reply) (e : Ended) (w : Goes d s a) (later : Kept (after d a) e).
+    (λ (d : Desk) (a : Reply) (e : Ended) (w : Goes d s a) (later : Kept (replied d a) e).
     let f = fit d s a w in
     let g = later .onward in
     record {
       onward = omega arith;
       size = later .size ∙ pasted-length (d .out) (d .run .wrote) (a .bytes) (omega arith) f;
-      before = after-before d s a w (e .out) (later .before);
-      further = later .further ∙ after-further d s a w (e .stopped .run .wrote) g;
+      before = replied-before d s a w (e .out) (later .before);
+      further = later .further ∙ replied-further d s a w (e .stopped .run .wrote) g;
     })
     d
 

@@ -10,7 +10,7 @@ use Rattle.calls.specs.Call.{Desk, Ended, runAt, turn, translated}
 use Rattle.stops.specs.declared.run.Stop.{Stop}
 use Rattle.calls.proofs.Fuel.{on, stop}
 use Rattle.calls.proofs.Pasting.{fits-on, pasted-on}
-use Rattle.calls.proofs.Asked.{Reply, asked, after, replyOn, runOn, askedOn, asked-on, turn-on}
+use Rattle.calls.proofs.Asked.{Reply, asked, replied, replyOn, runOn, askedOn, asked-on, turn-on}
 use Rattle.calls.proofs.Along.{Goes, Halts, halts-turn, along}
 
 module _ (pre front : List ℕ) where
@@ -29,12 +29,12 @@ module _ (pre front : List ℕ) where
     asked-moved : (w : Reply ⊎ Stop) → asked (d .run) s ≡ w → asked (deskOn d .run) (pre ++ s) ≡ askedOn (length pre) w
     asked-moved w e = asked-on pre s (length front) (d .run) ∙ ap (askedOn (length pre)) e
 
-    turn-moved : (a : Reply) → Goes d s a → turn (deskOn d) (pre ++ s) ≡ inl (deskOn (after d a))
+    turn-moved : (a : Reply) → Goes d s a → turn (deskOn d) (pre ++ s) ≡ inl (deskOn (replied d a))
     turn-moved a w =
         let f = fits-on front (d .out) (d .run .wrote) (a .bytes) ∙ w .room in
         let z : length front + d .run .wrote + length (a .bytes) ≡ length front + (d .run .wrote + length (a .bytes)) = omega arith in
         let o = pasted-on front (d .out) (d .run .wrote) (a .bytes) in
-        let same : after (deskOn d) (replyOn (length pre) a) ≡ deskOn (after d a) =
+        let same : replied (deskOn d) (replyOn (length pre) a) ≡ deskOn (replied d a) =
         λ i. record { run = runAt (length pre + a .next) (z i) (a .table) (a .steps); out = o i }
         in
         turn-on (deskOn d) (pre ++ s) (replyOn (length pre) a) (asked-moved (inl a) (w .asks)) f ∙ ap inl same
@@ -54,5 +54,5 @@ module _ (pre front : List ℕ) where
       (λ (d : Desk) (why : Stop) (w : Halts d s why).
       stop (deskOn d) (pre ++ s) why (halts-turn (deskOn d) (pre ++ s) why (halts-moved s d why w)))
       (λ (d : Desk) (a : Reply) (e : Ended) (w : Goes d s a) later.
-      on (deskOn d) (deskOn (after d a)) (pre ++ s) (turn-moved s d a w) ∙ later)
+      on (deskOn d) (deskOn (replied d a)) (pre ++ s) (turn-moved s d a w) ∙ later)
       d

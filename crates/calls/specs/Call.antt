@@ -57,16 +57,16 @@ worked d (Work x next) = stepped d x next
 worked d (Halt why) = inr why
 
 -- the header's line, and the fresh table
-abbrev pub opened : Desk → HeaderLine → Desk ⊎ Stop
-opened d (Header c n next) = answered d (headerBytes letterE c n) next (build c n .table) (d .run .steps)
-opened d NoHeader = inr BadHeader
-opened d CutHeader = inr Unfinished
+abbrev pub opening : Desk → HeaderLine → Desk ⊎ Stop
+opening d (Header c n next) = answered d (headerBytes letterE c n) next (build c n .table) (d .run .steps)
+opening d NoHeader = inr BadHeader
+opening d CutHeader = inr Unfinished
 
 -- the next line: the desk after it, or why the run stops there
 abbrev pub turn : Desk → List ℕ → Desk ⊎ Stop
 turn d s =
     cond (d .run .headed) (worked d (due s (d .run .place) (d .run .steps) (sound (d .run .table))))
-    (opened d (readHeader s (d .run .place)))
+    (opening d (readHeader s (d .run .place)))
 
 -- what a call leaves
 pub record Ended : Type 0 where

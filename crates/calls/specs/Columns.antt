@@ -8,6 +8,7 @@ use Rattle.ticket.specs.declared.kinds.Ticket.{Ticket}
 use Rattle.parts.specs.Range.{inRange}
 use Rattle.building.specs.Build.{build}
 use Rattle.block.specs.Steps.{step}
+use Rattle.block.specs.Over.{over, lastPlace}
 use Rattle.parts.specs.declared.answer.Step.{Step}
 use Rattle.parts.specs.declared.kinds.Counts.{Counts}
 use Rattle.block.specs.declared.table.Table.{Table}
@@ -23,16 +24,14 @@ script [] = []
 script (x ∷ xs) = stepBytes x ++ script xs
 
 -- the table after steps
-unfoldable pub tableAfter : Table → List Step → Table
-tableAfter t [] = t
-tableAfter t (x ∷ xs) = tableAfter (step t x .table) xs
+abbrev pub tableAfter : Table → List Step → Table
+tableAfter t xs = lastPlace (λ q x. step q x .table) t xs
 
--- the expected lines of steps from a table, after n steps
-unfoldable pub columns : ℕ → Table → List Step → List ℕ
-columns n t [] = []
-columns n t (x ∷ xs) =
-    let y = step t x in
-    expectedBytes (n + 1) (y .answer) (y .ticket) (y .grants) ++ columns (n + 1) (y .table) xs
+-- the expected lines of steps from a table, after n steps: a place is the number of steps done, and the table
+abbrev pub columns : ℕ → Table → List Step → List ℕ
+columns n t xs =
+    over {A = ℕ × Table} (λ p x. (p .0 + 1, step (p .1) x .table)) (λ p. [])
+    (λ p x later. let y = step (p .1) x in expectedBytes (p .0 + 1) (y .answer) (y .ticket) (y .grants) ++ later) (n, t) xs
 
 -- from the desk d a call on the script s left e: the steps that it read and worked, and what it wrote
 pub record Columned (d : Desk) (s : List ℕ) (e : Ended) : Type 0 where

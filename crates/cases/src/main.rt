@@ -9,6 +9,9 @@
 // - S: a table. u16 cores, first-class units, second-class units and counter; 8 cores of u16 own,
 //   carried, first and second and u8 state (0 idle, 1 waiting, 2 holding, 3 waiting second, 4 holding
 //   both, from 5 on away); 16 units of 8 registers. `S`, and 1 if it is sound, else 0.
+// - M: a step by a method of the table. The table as in S; u8 letter (0 R, 1 N, 2 P, 3 I, 4 C, from 5 on
+//   L), u16 core and u16 unit, which R and N alone read. `M`, the answer's number, ticket, number of
+//   grants, unit and core of each; and the table handed back, its numbers in the order of S.
 // - W: u32, a register word. `W`, 30; or `W`, 0, ticket, valid and flag.
 // - P: a register. `P`, 30; or `P`, 0 and its word.
 // - I: u16 cores, first-class units, second-class units and number of words, at most 200; the words, a
@@ -20,6 +23,7 @@
 // program.
 mod bytes;
 mod image;
+mod methods;
 mod register;
 mod scripts;
 mod table;
@@ -183,6 +187,9 @@ fn size(s: &[u8]) -> usize {
     if letter == b'S' {
         return 593;
     }
+    if letter == b'M' {
+        return 598;
+    }
     if letter == b'W' {
         return 5;
     }
@@ -213,6 +220,9 @@ fn answer(s: &[u8], out: &mut [u8], wrote: usize) -> usize {
     }
     if letter == b'S' {
         return table::answer(s, out, wrote);
+    }
+    if letter == b'M' {
+        return methods::answer(s, out, wrote);
     }
     if letter == b'W' {
         return register::answer_word(s, out, wrote);

@@ -12,6 +12,9 @@ use parts::Fill;
 use parts::LockUnit;
 use parts::State;
 use parts::UNITS;
+use parts::empty_unit;
+use parts::registered;
+use ticket::CoreNo;
 use ticket::Ticket;
 use ticket::UnitNo;
 ghost use Prim.Native.Nat.{_<_};
@@ -21,7 +24,8 @@ pub(crate) fn answer(s: &[u8], out: &mut [u8], wrote: usize) -> usize {
     head(out, wrote, b"S", bit(t.sound()))
 }
 
-fn table(s: &[u8]) -> Table {
+// The table, which stands first in a case.
+pub(crate) fn table(s: &[u8]) -> Table {
     Table {
         units: units(s, 81),
         cores: cores(s),
@@ -103,15 +107,12 @@ pub(crate) fn units(s: &[u8], from: usize) -> [LockUnit; UNITS]
 fn unit(s: &[u8], at: usize) -> LockUnit
     requires { ⌜ at < 1024 ⌝ }
 {
-    let a = register(s, at);
-    let b = register(s, at + 4);
-    let c = register(s, at + 8);
-    let d = register(s, at + 12);
-    let e = register(s, at + 16);
-    let f = register(s, at + 20);
-    let g = register(s, at + 24);
-    let h = register(s, at + 28);
-    LockUnit {
-        registers: [a, b, c, d, e, f, g, h],
+    let mut x = empty_unit();
+    let mut k = 0;
+    while k < CORES as u16 {
+        let r = register(s, at + 4 * k as usize);
+        x = registered(x, CoreNo(k), r);
+        k += 1;
     }
+    x
 }

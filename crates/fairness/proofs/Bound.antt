@@ -11,24 +11,27 @@ use lib.Dec.{eqb}
 use borrow.Author.Tests.{eqb-true, ltb-true, lt-ltb}
 use Rattle.ticket.specs.Kinds.{grant}
 use Rattle.parts.specs.Fold.{one, count}
+use Rattle.parts.specs.Answer.{whose}
 use Rattle.parts.specs.State.{isIdle}
 use Rattle.parts.specs.Parts.{cores, coreNo, unitNo}
 use Rattle.block.specs.Table.{coreOf, unitOf, registerOf}
+use Rattle.block.specs.Steps.{moves}
+use Rattle.block.specs.Over.{over}
 use Rattle.block.specs.declared.table.Table.{Table}
 use Rattle.parts.specs.declared.answer.Step.{Step}
 use Rattle.parts.specs.declared.answer.Step.the-variants.{R, N, P, I, C, L}
 use Rattle.parts.proofs.Bools.{and-left, and-right, and-both, not-true-false, clash}
 use Rattle.parts.proofs.Folds.{some-at}
-use Rattle.block.proofs.Picking.{next-won}
-use Rattle.laws.proofs.Granting.{moves, settled-rising}
+use Rattle.settling.proofs.Picking.{next-won}
+use Rattle.laws.proofs.Granting.{settled-rising}
 use Rattle.laws.proofs.Keeping.{Good}
-use Rattle.fairness.specs.Run.{Place, whose, interrupts, onward}
+use Rattle.fairness.specs.Run.{Place, interrupts, onward}
 use Rattle.fairness.specs.Stretch.{grants, grantsOf, leaves, stretch, isEarlier, earlier, among, passed, interruptions}
 use Rattle.fairness.specs.Fair.{Bound}
 use Rattle.fairness.proofs.Counting.{count-le, count-drop, count-rise, at-gives, grants-some, grants-most}
 use Rattle.fairness.proofs.Settled.{settled-keeps, settled-due}
-use Rattle.fairness.proofs.Effects.{Accepted, Refusal, judged, spared, flag-kept}
-use Rattle.fairness.proofs.Invariant.{Live, numbered, live-onward, stepped-core, undone-requests, issue-kept}
+use Rattle.fairness.proofs.Effects.{Accepted, Refusal, stepped, stepped-core, judged, flag-kept}
+use Rattle.fairness.proofs.Invariant.{Live, numbered, live-onward, undone-requests, issue-kept}
 use Rattle.fairness.proofs.Standing.{Stands, stands-entry, stands-onward, place}
 use Rattle.fairness.proofs.Overtaking.{granted-due, due-live, not-overtaken}
 
@@ -76,7 +79,7 @@ among-less e k i h =
 abbrev left : Place → ℕ → ℕ → Place → ℕ
 left e k u p = count (λ (j : ℕ). unflagged e k u (p .table) (p .issue j) j) cores
 
-interrupts-whose : (t : Table) (z : Step) (j : ℕ) → interrupts t z j ≡ true → j ≡ whose z
+interrupts-whose : (t : Table) (z : Step) (j : ℕ) → interrupts t z j ≡ true → j ≡ whose z .0
 interrupts-whose t (R k u) j h = absurd (clash h refl)
 interrupts-whose t (N k u) j h = absurd (clash h refl)
 interrupts-whose t (P k) j h = absurd (clash h refl)
@@ -108,7 +111,7 @@ module _ (e : Place) (c k u : ℕ) (p : Place) (w : Stands e c k u p) (z : Step)
   behind j = unflagged e k u (q .table) (q .issue j) j
 
   abbrev interruption : Bool
-  interruption = interrupts t z (whose z) && among e k (p .issue (whose z))
+  interruption = interrupts t z (whose z .0) && among e k (p .issue (whose z .0))
 
   -- whoever is earlier after the step had its ticket before
   old : (j : ℕ) → Live (q .table) j → among e k (q .issue j) ≡ true → Live t j × (q .issue j ≡ p .issue j)
@@ -141,7 +144,7 @@ module _ (e : Place) (c k u : ℕ) (p : Place) (w : Stands e c k u p) (z : Step)
         go false f = inl (telling e k u t (p .issue j) j (record { live = o .0; early = early; clear = f }))
         go true f =
             ⊎-elim (λ f'. absurd (clash f' (x .clear))) (λ i. inr (i, early))
-            (flag-kept t g u (w .class) z j (a .may) (x .live) f)
+            (flag-kept t g u (w .class) z j a (x .live) f)
 
     work : count between cores ≤ count before cores + one interruption
     work = go interruption refl
@@ -151,7 +154,7 @@ module _ (e : Place) (c k u : ℕ) (p : Place) (w : Stands e c k u p) (z : Step)
 
         go : (b : Bool) → interruption ≡ b → count between cores ≤ count before cores + one b
         go true i =
-            count-rise between before cores (whose z) (spared t g z (a .may) .small)
+            count-rise between before cores (whose z .0) (a .small)
             (λ j h d x. ⊎-elim (λ y. y) (λ y. absurd (d (interrupts-whose t z j (y .0)))) (moved j x))
         go false i =
             let le = count-le between before cores (λ j h x. ⊎-elim (λ y. y) (λ y. absurd (clash (counted j y) i)) (moved j x)) in
@@ -165,7 +168,7 @@ module _ (e : Place) (c k u : ℕ) (p : Place) (w : Stands e c k u p) (z : Step)
       where
         go : (b : Bool) → registerOf m u j .flag ≡ b → registerOf (q .table) u j .flag ≡ false → registerOf m u j .flag ≡ false
         go false f clear = f
-        go true f clear = absurd (clash (settled-keeps m (a .shaped) u j .flag f) (rw (a .table) at clear))
+        go true f clear = absurd (clash (settled-keeps m (a .shaped) u j .flag f) (rw (stepped t z a) at clear))
 
     settling : grantsOf u (grants p z) + count behind cores ≤ count between cores
     settling = ⊎-elim none some (grants-some u (grants p z))
@@ -184,7 +187,7 @@ module _ (e : Place) (c k u : ℕ) (p : Place) (w : Stands e c k u p) (z : Step)
             let d = granted-due e c k u p w z on a j (i .1) in
             let won = next-won (unitOf m u) (coreNo j) (d .ticket) (d .oldest) in
             let less = not-overtaken e c k u p w z on j (at-gives u j (grants p z) (i .1)) in
-            let set : registerOf (q .table) u j .flag ≡ true = rw (a .table) (settled-due m (a .shaped) u h (coreNo j) d) in
+            let set : registerOf (q .table) u j .flag ≡ true = rw (stepped t z a) (settled-due m (a .shaped) u h (coreNo j) d) in
             let live = due-live e c k u p w z on a j d in
             let there : between j ≡ true =
             telling e k u m (q .issue j) j
@@ -227,7 +230,7 @@ stretch-bound :
     (more : List Step) →
     stretch k u p more ≡ true →
     passed u p more ≤ left e k u p + interruptions e k p more
-unfolding stretch passed interruptions
+unfolding over
 stretch-bound e c k u p w [] on = omega arith
 stretch-bound e c k u p w (z ∷ more) on =
     let stays = not-true-false (leaves k u p z) (and-left (not (leaves k u p z)) _ on) in

@@ -13,7 +13,7 @@ use Rattle.parts.specs.Fold.{upTo, count, one}
 use Rattle.parts.specs.Parts.{coreNo, unitNo}
 use Rattle.parts.proofs.Bools.{and-left, and-right, and-both, or-cases, or-left, or-right, clash}
 use Rattle.parts.proofs.Folds.{count-change}
-use Rattle.block.proofs.Access.{same-or-not}
+use Rattle.parts.proofs.Along.{same-or-not}
 use Rattle.laws.specs.Granting.{Rising}
 use Rattle.fairness.specs.Stretch.{gives, grantsOf}
 

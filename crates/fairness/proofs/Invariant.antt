@@ -8,40 +8,39 @@ use mathlib.Core.Logic.{_⊎_, inl, inr, ⊎-elim, _≢_}
 use mathlib.Core.Path.{_≡_, refl, sym, _∙_, ap, ap₂, subst}
 use native.Mathlib.Omega.{arith}
 use lib.Dec.{eqb, ltb}
-use lib.ListN.{getD, List·getD-eq-default}
-use borrow.Author.Tests.{eqb-true, eq-eqb, ne-eqb, leb-false, ltb-true, ltb-false}
+use lib.ListN.{List·getD-eq-default}
+use borrow.Author.Tests.{eqb-true, eq-eqb, ne-eqb, ltb-true, ltb-false}
 use Rattle.ticket.specs.Issue.{nth}
-use Rattle.ticket.specs.Order.{circle, half, behind, topBit, older, after}
+use Rattle.ticket.specs.Order.{circle, half, behind, older, after}
 use Rattle.ticket.specs.declared.kinds.CoreNo.{CoreNo}
 use Rattle.ticket.specs.declared.kinds.Ticket.{Ticket}
 use Rattle.ticket.specs.declared.kinds.UnitNo.{UnitNo}
 use Rattle.ticket.proofs.Laws.{nth-after, apart, earlier-older, later-not-older, same}
 use Rattle.parts.specs.Fold.{one}
+use Rattle.parts.specs.Answer.{whose}
 use Rattle.parts.specs.State.{isIdle}
 use Rattle.parts.specs.Parts.{cores, unitNo, idle, core}
 use Rattle.block.specs.Table.{coreOf}
 use Rattle.parts.specs.Range.{inRange}
 use Rattle.building.specs.Build.{fresh}
-use Rattle.block.specs.Steps.{step}
-use Rattle.block.specs.Verdict.{old, mayRequest}
+use Rattle.block.specs.Steps.{effectOn, step}
+use Rattle.block.specs.Over.{over}
 use Rattle.parts.specs.declared.kinds.Core.{Core}
 use Rattle.parts.specs.declared.kinds.Counts.{Counts}
 use Rattle.parts.specs.declared.kinds.State.the-variants.{Waiting}
 use Rattle.block.specs.declared.table.Table.{Table}
 use Rattle.parts.specs.declared.answer.Step.{Step}
 use Rattle.parts.specs.declared.answer.Step.the-variants.{R, N, P, I, C, L}
-use Rattle.refusals.specs.declared.verdict.Verdict.the-variants.{Allowed}
-use Rattle.block.proofs.Access.{Shaped, same-or-not}
-use Rattle.block.proofs.Allows.{may-request}
+use Rattle.block.proofs.Access.{Shaped}
+use Rattle.parts.proofs.Along.{same-or-not}
+use Rattle.block.proofs.Allows.{may-request, may-nest, may-interrupt, may-come-back}
 use Rattle.parts.proofs.Bools.{and-left, clash}
-use Rattle.parts.proofs.Folds.{some-none}
 use Rattle.block.proofs.Parts.{parts}
-use Rattle.laws.proofs.Granting.{moves}
 use Rattle.laws.proofs.Keeping.{Good, steps-keep, core-fresh, fresh-shaped, fresh-sound}
+use Rattle.laws.proofs.Kept.{live-close}
 use Rattle.laws.proofs.Oldest.{Fitting}
-use Rattle.laws.proofs.Settling.{settle-same}
-use Rattle.fairness.specs.Run.{Place, Reached, whose, done, requests, onward, start, after as afterAll}
-use Rattle.fairness.proofs.Effects.{Accepted, Refusal, Keeps, judged, on-good, request-done, spared, requested-core, nest-keeps, poll-keeps, interrupt-keeps, return-keeps, release-keeps}
+use Rattle.fairness.specs.Run.{Place, Reached, done, requests, onward, start, afterAll}
+use Rattle.fairness.proofs.Effects.{Accepted, Refusal, Keeps, Same, judged, on-good, answers-done, stepped-core, stepped-counter, keeps, poll-same}
 
 -- core j has a ticket
 abbrev pub Live : Table → ℕ → Type 0
@@ -60,21 +59,6 @@ live-small t s j live = go (ltb j cores) refl
 -- A step's table
 
 module _ (t : Table) where
-  pub stepped-core : (z : Step) → Accepted t z → (j : ℕ) → coreOf (step t z .table) j ≡ coreOf (moves t z) j
-  stepped-core z a j =
-      ap (λ (x : Table). coreOf x j) (a .table) ∙ ap (λ (l : List Core). getD l j idle) (settle-same (moves t z) .0)
-
-  pub stepped-counter : (z : Step) → Accepted t z → step t z .table .counter ≡ moves t z .counter
-  stepped-counter z a = ap (λ (x : Table). x .counter) (a .table) ∙ settle-same (moves t z) .2
-
-  stepped-keeps : (z : Step) → Accepted t z → Keeps t (moves t z) → Keeps t (step t z .table)
-  stepped-keeps z a k =
-      record {
-        counter = stepped-counter z a ∙ k .counter;
-        live = λ j e. k .live j (rw (stepped-core z a j) at e);
-        own = λ j e. ap (λ (c : Core). c .own .0) (stepped-core z a j) ∙ k .own j (rw (stepped-core z a j) at e);
-      }
-
   pub undone-requests : (z : Step) → done t z ≡ false → (j : ℕ) → requests t z j ≡ false
   undone-requests (R k u) e j = ap (λ (b : Bool). eqb (k .0) j && b) e ∙ go (eqb (k .0) j)
     where
@@ -95,7 +79,7 @@ module _ (t : Table) where
     pub by-tickets :
         (Q : Step → Type 0) →
         ((z : Step) → Keeps t (step t z .table) → ((j : ℕ) → requests t z j ≡ false) → Q z) →
-        ((k : CoreNo) (u : UnitNo) → mayRequest t k u ≡ Allowed → Accepted t (R k u) → Q (R k u)) →
+        ((k : CoreNo) (u : UnitNo) → Accepted t (R k u) → Q (R k u)) →
         (z : Step) →
         Q z
     by-tickets Q kept asked z = ⊎-elim (accepted z) refused (judged t g z)
@@ -110,13 +94,18 @@ module _ (t : Table) where
             })
             (undone-requests z (r .undone))
 
+        keep : (z : Step) → Accepted t z → Same t (whose z .0) (effectOn t z) → ((j : ℕ) → requests t z j ≡ false) → Q z
+        keep z a same = kept z (keeps t z a same)
+
         accepted : (z : Step) → Accepted t z → Q z
-        accepted (R k u) a = asked k u (a .may) a
-        accepted (N k u) a = kept (N k u) (stepped-keeps (N k u) a (nest-keeps t g k u (a .may))) (λ j. refl)
-        accepted (P k) a = kept (P k) (stepped-keeps (P k) a (poll-keeps t g k (a .may))) (λ j. refl)
-        accepted (I k) a = kept (I k) (stepped-keeps (I k) a (interrupt-keeps t g k (a .may))) (λ j. refl)
-        accepted (C k) a = kept (C k) (stepped-keeps (C k) a (return-keeps t g k (a .may))) (λ j. refl)
-        accepted (L k) a = kept (L k) (stepped-keeps (L k) a (release-keeps t g k (a .may))) (λ j. refl)
+        accepted (R k u) a = asked k u a
+        accepted (N k u) a = keep (N k u) a (record { counter = refl; own = λ e. (ap isIdle (may-nest t k u (a .may) .state), refl) }) (λ j. refl)
+        accepted (P k) a = keep (P k) a (poll-same t k (a .may)) (λ j. refl)
+        accepted (I k) a =
+            let live = ⊎-elim (λ q. ap isIdle q) (λ q. ap isIdle q) (may-interrupt t k (a .may) .1) in
+            keep (I k) a (record { counter = refl; own = λ e. (live, refl) }) (λ j. refl)
+        accepted (C k) a = keep (C k) a (record { counter = refl; own = λ e. (ap isIdle (may-come-back t k (a .may) .1), refl) }) (λ j. refl)
+        accepted (L k) a = keep (L k) a (record { counter = refl; own = λ e. absurd (clash refl e) }) (λ j. refl)
 
 below : (c i : ℕ) → nth c i < circle
 unfolding nth
@@ -138,12 +127,12 @@ module _ (p : Place) (z : Step) where
   pub issue-taken : (j : ℕ) → requests (p .table) z j ≡ true → onward p z .issue j ≡ p .issued
   issue-taken j e = ap (λ (b : Bool). cond b (p .issued) (p .issue j)) e
 
-  issued-kept : requests (p .table) z (whose z) ≡ false → onward p z .issued ≡ p .issued
+  issued-kept : requests (p .table) z (whose z .0) ≡ false → onward p z .issued ≡ p .issued
   issued-kept e =
       let a : onward p z .issued ≡ p .issued + 0 = ap (λ (b : Bool). p .issued + one b) e in
       omega arith
 
-  issued-taken : requests (p .table) z (whose z) ≡ true → onward p z .issued ≡ p .issued + 1
+  issued-taken : requests (p .table) z (whose z .0) ≡ true → onward p z .issued ≡ p .issued + 1
   issued-taken e = ap (λ (b : Bool). p .issued + one b) e
 
 module _ (c : ℕ) (p : Place) (n : Numbered c p) where
@@ -152,7 +141,7 @@ module _ (c : ℕ) (p : Place) (n : Numbered c p) where
 
   onward-kept : (z : Step) → Keeps t (step t z .table) → ((j : ℕ) → requests t z j ≡ false) → Numbered c (onward p z)
   onward-kept z k f =
-      let e = issued-kept p z (f (whose z)) in
+      let e = issued-kept p z (f (whose z .0)) in
       record {
         good = step-good t (n .good) z;
         counter = ap (λ (x : Ticket). x .0) (k .counter) ∙ n .counter ∙ ap (nth c) (sym e);
@@ -161,29 +150,26 @@ module _ (c : ℕ) (p : Place) (n : Numbered c p) where
         high = λ j l. omega (arith, issue-kept p z j (f j), n .high j (k .live j l));
       }
 
-  module _ (k : CoreNo) (u : UnitNo) (may : mayRequest t k u ≡ Allowed) (a : Accepted t (R k u)) where
+  module _ (k : CoreNo) (u : UnitNo) (a : Accepted t (R k u)) where
     abbrev asks : Step
     asks = R k u
 
     taken-at : (j : ℕ) → j ≡ k .0 → requests t asks j ≡ true
-    taken-at j e = simp (eq-eqb (k .0) j (sym e), request-done t (n .good) k u may)
+    taken-at j e = simp (eq-eqb (k .0) j (sym e), answers-done t asks a refl)
 
     taken-not : (j : ℕ) → j ≢ k .0 → requests t asks j ≡ false
     taken-not j d = simp (ne-eqb (k .0) j (λ e. d (sym e)))
 
     core-at : coreOf (step t asks .table) (k .0) ≡ core (t .counter) (t .counter) u (unitNo 0) Waiting
-    core-at = stepped-core t asks a (k .0) ∙ requested-core t (n .good) k u may
+    core-at = stepped-core t asks a (k .0) ∙ a .moved .becomes
 
     core-not : (j : ℕ) → j ≢ k .0 → coreOf (step t asks .table) j ≡ coreOf t j
-    core-not j d = stepped-core t asks a j ∙ spared t (n .good) asks may .core j d
+    core-not j d = stepped-core t asks a j ∙ a .moved .others j d
 
     -- no live ticket lies half a circle behind
     close : (j : ℕ) → Live t j → p .issued < p .issue j + half
-    unfolding topBit
     close j l =
-        let small = live-small t (n .good .shaped) j l in
-        let b : behind (t .counter .0) (coreOf t j .own .0) < half =
-        leb-false half _ (simp l at (some-none (old t) cores (may-request t k u may .close) j small)) in
+        let b = live-close t (n .good .sound) (may-request t k u (a .may) .close) j (live-small t (n .good .shaped) j l) l in
         let d : behind (nth c (p .issued)) (nth c (p .issue j)) < half =
         subst (λ (x : ℕ). x < half) (ap₂ behind (n .counter) (n .own j l)) b in
         let low = n .low j l in
@@ -296,7 +282,7 @@ module _ (c : ℕ) (p : Place) (n : Numbered c p) where
 
 numbered-start : (c : Counts) (m : Ticket) → inRange c ≡ true → m .0 < circle → Numbered (m .0) (start c m)
 unfolding nth
-numbered-start c m good fits =
+numbered-start c m good low =
     let g = fresh-shaped c m in
     let none : (j : ℕ) → Live (fresh c m) j → ⊥ =
     λ j l. clash (ap (λ (x : Core). isIdle (x .state)) (core-fresh c m j (live-small (fresh c m) g j l))) l in
@@ -309,12 +295,12 @@ numbered-start c m good fits =
     }
 
 pub numbered-after : (c : ℕ) (p : Place) → Numbered c p → (l : List Step) → Numbered c (afterAll p l)
-unfolding afterAll
+unfolding over
 numbered-after c p n [] = n
 numbered-after c p n (s ∷ more) = numbered-after c (onward p s) (numbered-onward c p n s) more
 
 pub numbered : (p : Place) → Reached p → (c : ℕ) × Numbered c p
 numbered p r =
     let c = r .counter .0 in
-    let n = numbered-start (r .counts) (r .counter) (r .good) (r .fits) in
+    let n = numbered-start (r .counts) (r .counter) (r .good) (r .counterFits) in
     (c, subst (Numbered c) (r .run) (numbered-after c (start (r .counts) (r .counter)) n (r .steps)))

@@ -1,85 +1,40 @@
 -- No overtaking. At a grant of the unit in the stretch the core's register is in line too, so the winner's is older. First-class units
 -- show own tickets, and their comparison is the order of issue.
 use Prim.Native.Nat.{ℕ, _<_}
-use mathlib.Core.Bool.{true, false, _&&_, not}
+use mathlib.Core.Bool.{true, false, not}
 use mathlib.Core.List.{List·Memᴰ, List·Memᴰ·not-nil}
 use mathlib.Core.Logic.{⊎-elim, _≢_}
-use mathlib.Core.Path.{_≡_, refl, sym, _∙_, ap, ap₂}
+use mathlib.Core.Path.{_≡_, sym, _∙_, ap, ap₂}
 use native.Mathlib.Omega.{arith}
-use lib.Dec.{eqb}
-use borrow.Author.Tests.{eqb-true, eq-eqb, ltb-true}
+use borrow.Author.Tests.{eq-eqb, ltb-true}
 use Rattle.ticket.specs.Kinds.{grant}
 use Rattle.ticket.specs.Order.{older}
 use Rattle.ticket.specs.declared.kinds.Ticket.{Ticket}
-use Rattle.parts.specs.State.{isIdle, waits}
-use Rattle.parts.specs.Parts.{cores, units, coreNo, unitNo}
+use Rattle.parts.specs.State.{isIdle}
+use Rattle.parts.specs.Parts.{cores, coreNo, unitNo}
 use Rattle.block.specs.Table.{coreOf, unitOf, registerOf}
-use Rattle.plan.specs.Settle.{inLine}
+use Rattle.settling.specs.Line.{inLine}
 use Rattle.block.specs.Sound as S
-use Rattle.block.specs.Steps.{awaited}
+use Rattle.block.specs.Steps.{moves}
 use Rattle.parts.specs.declared.kinds.Core.{Core}
 use Rattle.parts.specs.declared.kinds.Register.{Register}
-use Rattle.parts.specs.declared.kinds.State.{State}
-use Rattle.parts.specs.declared.kinds.State.the-variants.{Idle, Waiting, Holding, WaitingSecond, HoldingBoth, Away}
+use Rattle.parts.specs.declared.kinds.State.the-variants.{Waiting}
 use Rattle.block.specs.declared.table.Table.{Table}
 use Rattle.parts.specs.declared.answer.Step.{Step}
-use Rattle.parts.proofs.Bools.{and-left, and-right, and-both, clash}
-use Rattle.block.proofs.Picking.{next-won}
+use Rattle.parts.proofs.Bools.{and-both, clash}
+use Rattle.settling.proofs.Picking.{next-won}
 use Rattle.laws.specs.Granting.{Due}
-use Rattle.laws.proofs.Almost.{Almost}
-use Rattle.laws.proofs.Granting.{moves, settled-exactly, in-line-awaits}
-use Rattle.laws.proofs.Kept.{names-two}
+use Rattle.laws.proofs.Agreeing.{shows}
+use Rattle.laws.proofs.Granting.{settled-exactly}
+use Rattle.laws.proofs.Kept.{WaitsAt, in-line-waits}
 use Rattle.laws.proofs.Oldest.{Fitting, oldest-won}
-use Rattle.fairness.specs.Run.{Place, onward, after}
+use Rattle.fairness.specs.Run.{Place, onward, afterAll}
 use Rattle.fairness.specs.Stretch.{grants, gives, leaves}
 use Rattle.fairness.specs.Fair.{NoOvertaking}
 use Rattle.fairness.proofs.Counting.{gives-at}
-use Rattle.fairness.proofs.Effects.{Accepted, Refusal, judged, spared}
-use Rattle.fairness.proofs.Invariant.{Live, live-small, numbered, Numbered, numbered-onward, stepped-core, fitting, order}
+use Rattle.fairness.proofs.Effects.{Accepted, Refusal, stepped-core, judged}
+use Rattle.fairness.proofs.Invariant.{Live, live-small, numbered, Numbered, numbered-onward, fitting, order}
 use Rattle.fairness.proofs.Standing.{Stands, stands-entry, stands-after, ungranted, place, issue-stays, unmoved}
-
--- whoever is in line at a first-class unit waits there with its own ticket
-record Lined (m : Table) (u j : ℕ) : Type 0 where
-  live : Live m j
-  own : registerOf m u j .ticket .0 ≡ coreOf m j .own .0
-
--- what a core that waits at its first unit shows there
-shown-first :
-    (m : Table) →
-    Almost m →
-    (u j : ℕ) →
-    u < units →
-    j < cores →
-    coreOf m j .state ≡ Waiting →
-    coreOf m j .first .0 ≡ u →
-    S.shows (registerOf m u j) (coreOf m j .own) false ≡ true
-shown-first m a u j h l e q = simp (e, eq-eqb u (coreOf m j .first .0) (sym q)) at (a .agrees u h j l)
-
-lined :
-    (m : Table) →
-    Almost m →
-    (u j : ℕ) →
-    u < units →
-    u < m .counts .first →
-    j < cores →
-    inLine (registerOf m u j) ≡ true →
-    Lined m u j
-lined m a u j h class l line = go (coreOf m j .state) refl (in-line-awaits m u j a h l line)
-  where
-    go : (z : State) → coreOf m j .state ≡ z → (waits (coreOf m j .state) ≡ true) × (awaited (coreOf m j) ≡ u) → Lined m u j
-    go Idle e w = absurd (clash (w .0) (ap waits e))
-    go Waiting e w =
-        let r = registerOf m u j in
-        let shows = shown-first m a u j h l e (simp e at (w .1)) in
-        let same = and-right (r .valid) _ (and-left (r .valid && eqb (r .ticket .0) (coreOf m j .own .0)) _ shows) in
-        record { live = ap isIdle e; own = eqb-true (r .ticket .0) (coreOf m j .own .0) same }
-    go Holding e w = absurd (clash (w .0) (ap waits e))
-    go WaitingSecond e w =
-        let names = names-two m (coreOf m j) (simp e at (a .core j l .named)) in
-        let q : coreOf m j .second .0 ≡ u = simp e at (w .1) in
-        absurd (omega arith)
-    go HoldingBoth e w = absurd (clash (w .0) (ap waits e))
-    go Away e w = absurd (clash (w .0) (ap waits e))
 
 module _ (e : Place) (c k u : ℕ) (p : Place) (w : Stands e c k u p) (z : Step) (on : leaves k u p z ≡ false) where
   abbrev t : Table
@@ -104,23 +59,27 @@ module _ (e : Place) (c k u : ℕ) (p : Place) (w : Stands e c k u p) (z : Step)
   fits : Accepted t z → Fitting m
   fits a = record { own = λ j h. rw (stepped-core t z a j) at (fitting c q n .own j h) }
 
+  -- core k shows its own ticket at u, its flag clear
   in-line : Accepted t z → inLine (registerOf m u k) ≡ true
   in-line a =
       let x = unmoved e c k u p w z on a in
       let r = registerOf m u k in
-      let state = ap (λ (y : Core). y .state) (x .core) ∙ w .state in
-      let first = ap (λ (y : Core). y .first .0) (x .core) ∙ w .first in
-      let shows = shown-first m (a .almost) u k (place e c k u p w z on) small state first in
-      and-both (and-left (r .valid) _ (and-left (r .valid && eqb (r .ticket .0) (coreOf m k .own .0)) _ shows))
+      let state : coreOf m k .state ≡ Waiting = ap (λ (y : Core). y .state) (x .core) ∙ w .state in
+      let first : u ≡ coreOf m k .first .0 = sym (ap (λ (y : Core). y .first .0) (x .core) ∙ w .first) in
+      let agrees = a .almost .agrees u (place e c k u p w z on) k small in
+      and-both (shows r (coreOf m k .own) false (simp (state, eq-eqb u (coreOf m k .first .0) first) at agrees) .valid)
       (ap (λ (y : Register). not (y .flag)) (x .register) ∙ ap not (w .clear))
 
-  class : Accepted t z → u < m .counts .first
-  class a = rw (spared t (w .numbered .good) z (a .may) .counts) (w .class)
+  -- whoever is in line at u waits there with its own ticket
+  lined : Accepted t z → (j : ℕ) → j < cores → inLine (registerOf m u j) ≡ true → WaitsAt (coreOf m j) u (registerOf m u j .ticket)
+  lined a j l =
+      in-line-waits m (coreOf m j) u (registerOf m u j) (rw (a .moved .counts) (w .class)) (a .almost .core j l .named)
+      (a .almost .agrees u (place e c k u p w z on) j l)
 
   pub due-live : Accepted t z → (j : ℕ) → Due (unitOf m u) (coreNo j) → Live (q .table) j
   due-live a j d =
       let won = next-won (unitOf m u) (coreNo j) (d .ticket) (d .oldest) in
-      rw (stepped-core t z a j) (lined m (a .almost) u j (place e c k u p w z on) (class a) (won .2) (won .0) .live)
+      rw (stepped-core t z a j) (ap isIdle (lined a j (won .2) (won .0) .state))
 
   winner-earlier :
       Accepted t z → (j : ℕ) → Due (unitOf m u) (coreNo j) → gives u j (grants p z) ≡ true → q .issue j < e .issue k
@@ -128,13 +87,13 @@ module _ (e : Place) (c k u : ℕ) (p : Place) (w : Stands e c k u p) (z : Step)
       let h = place e c k u p w z on in
       let o = oldest-won m (a .almost) (fits a) u h (coreNo j) (d .ticket) (d .oldest) in
       let other : k ≢ j = λ same. clash given (ap (λ (i : ℕ). gives u i (grants p z)) (sym same) ∙ ungranted e c k u p w z on) in
-      let x = lined m (a .almost) u j h (class a) (o .0) (o .1) in
-      let y = lined m (a .almost) u k h (class a) small (in-line a) in
+      let x = lined a j (o .0) (o .1) in
+      let y = lined a k small (in-line a) in
       let won : older (coreOf m j .own .0) (coreOf m k .own .0) ≡ true =
-      ap₂ older (sym (x .own) ∙ ap (λ (i : Ticket). i .0) (o .2)) (sym (y .own)) ∙ o .3 k small other (in-line a) in
+      ap₂ older (x .own ∙ ap (λ (i : Ticket). i .0) (o .2)) (y .own) ∙ o .3 k small other (in-line a) in
       let at-j = stepped-core t z a j in
       let at-k = stepped-core t z a k in
-      let said = order c q n j k (due-live a j d) (rw at-k (y .live)) in
+      let said = order c q n j k (due-live a j d) (rw at-k (ap isIdle (y .state))) in
       let less =
       ltb-true (q .issue j) (q .issue k) (sym said ∙ ap₂ (λ (v v' : Core). older (v .own .0) (v' .own .0)) at-j at-k ∙ won) in
       let same = issue-stays e c k u p w z on in
@@ -157,4 +116,4 @@ no-overtaking p s k u more z j r entry on ongoing given =
     let n = numbered p r in
     let w = stands-entry (n .0) p (n .1) s k u entry in
     let y = stands-after (onward p s) (n .0) k u (onward p s) w more on in
-    omega (arith, not-overtaken (onward p s) (n .0) k u (after (onward p s) more) y z ongoing j given)
+    omega (arith, not-overtaken (onward p s) (n .0) k u (afterAll (onward p s) more) y z ongoing j given)

@@ -14,16 +14,16 @@ use borrow.Author.Tests.{eqb-true, eq-eqb}
 use Rattle.ticket.specs.declared.kinds.CoreNo.{CoreNo}
 use Rattle.parts.specs.Parts.{units, coreNo, blank, flagged, registerIn}
 use Rattle.block.specs.Table.{unitOf, registerOf}
-use Rattle.plan.specs.Settle.{flags, next}
+use Rattle.settling.specs.Line.{flags, next}
 use Rattle.block.specs.Settle.{give, settleAt, settleNext, settle}
 use Rattle.parts.specs.declared.kinds.Register.{Register}
 use Rattle.parts.specs.declared.kinds.LockUnit.{LockUnit}
 use Rattle.block.specs.declared.table.Table.{Table}
-use Rattle.plan.specs.declared.settle.Best.{Best}
-use Rattle.plan.specs.declared.settle.Best.the-variants.{Nobody, Core as Won}
-use Rattle.block.proofs.Access.{Shaped, same-or-not, unit-same}
-use Rattle.block.proofs.Along.{to-last, along}
-use Rattle.block.proofs.Picking.{next-won}
+use Rattle.settling.specs.declared.line.Best.{Best}
+use Rattle.settling.specs.declared.line.Best.the-variants.{Nobody, Won}
+use Rattle.block.proofs.Access.{Shaped, unit-same}
+use Rattle.parts.proofs.Along.{same-or-not, to-last, along}
+use Rattle.settling.proofs.Picking.{next-won}
 use Rattle.block.proofs.Touching.{settleAt-unit}
 use Rattle.laws.specs.Granting.{winner, Due}
 use Rattle.laws.proofs.Settling.{Kept, settleAt-shaped, settleAt-keeps}

@@ -9,12 +9,16 @@ use mathlib.Core.Path.{_≡_, refl, sym, _∙_, ap}
 use native.Mathlib.Omega.{arith}
 use lib.Dec.{eqb, ltb}
 use borrow.Author.Tests.{eqb-true, eq-eqb, ltb-true, lt-ltb}
-use Rattle.ticket.specs.Kinds.{ticket, grant}
-use Rattle.ticket.specs.Order.{after}
+use Rattle.ticket.specs.Kinds.{grant}
+use Rattle.ticket.specs.declared.kinds.Ticket.{Ticket}
+use Rattle.ticket.specs.declared.kinds.UnitNo.{UnitNo}
+use Rattle.parts.specs.Answer.{whose}
 use Rattle.parts.specs.State.{isIdle, waits, holds, twoStage}
-use Rattle.parts.specs.Parts.{cores, units, coreNo, unitNo, standing}
-use Rattle.block.specs.Table.{coreOf, unitOf, registerOf, withCounter}
-use Rattle.block.specs.Steps.{step}
+use Rattle.parts.specs.Parts.{cores, units, coreNo, unitNo}
+use Rattle.block.specs.Table.{coreOf, unitOf, registerOf}
+use Rattle.effects.specs.declared.kinds.Move.the-variants.{Enter}
+use Rattle.block.specs.Steps.{effectOn, moves, step}
+use Rattle.block.specs.Over.{over}
 use Rattle.parts.specs.declared.kinds.Core.{Core}
 use Rattle.parts.specs.declared.kinds.Register.{Register}
 use Rattle.parts.specs.declared.kinds.State.{State}
@@ -22,23 +26,22 @@ use Rattle.parts.specs.declared.kinds.State.the-variants.{Waiting}
 use Rattle.block.specs.declared.table.Table.{Table}
 use Rattle.parts.specs.declared.answer.Step.{Step}
 use Rattle.parts.specs.declared.answer.Step.the-variants.{R, N, P, I, C, L}
-use Rattle.block.proofs.Access.{same-or-not, register-same, shaped-counter}
+use Rattle.parts.proofs.Along.{same-or-not}
 use Rattle.block.proofs.Allows.{may-request, may-nest, may-come-back, may-release}
-use Rattle.block.proofs.Answering.{request-in, come-back-in}
 use Rattle.parts.proofs.Bools.{and-left, and-right, and-both, not-true-false, clash}
 use Rattle.parts.proofs.Folds.{at-some}
-use Rattle.block.proofs.Parts.{whole}
 use Rattle.block.proofs.Standing.{units-few}
+use Rattle.block.proofs.Stepping.{poll-moves}
 use Rattle.laws.specs.Granting.{listed, Due}
-use Rattle.laws.proofs.Granting.{moves, settled-exactly}
+use Rattle.laws.proofs.Granting.{settled-exactly}
 use Rattle.laws.proofs.Keeping.{Good}
-use Rattle.laws.proofs.Settling.{settle-same}
-use Rattle.fairness.specs.Run.{Place, whose, done, requests, interrupts, onward, after as afterAll}
+use Rattle.laws.proofs.Moving.{affected-shown}
+use Rattle.fairness.specs.Run.{Place, done, requests, interrupts, onward, afterAll}
 use Rattle.fairness.specs.Stretch.{grants, gives, entersAt, enters, leaves, stretch, isEarlier, among}
 use Rattle.fairness.proofs.Counting.{at-gives}
 use Rattle.fairness.proofs.Settled.{settled-new}
-use Rattle.fairness.proofs.Effects.{Accepted, judged, done-accepted, interrupt-done, spared, poll-cases, requested-core, returned-core}
-use Rattle.fairness.proofs.Invariant.{Live, Numbered, live-small, stepped-core, issue-kept, numbered-onward, live-onward}
+use Rattle.fairness.proofs.Effects.{Accepted, stepped, stepped-core, stepped-counts, answers-done, judged, done-accepted}
+use Rattle.fairness.proofs.Invariant.{Live, Numbered, live-small, issue-kept, numbered-onward, live-onward}
 
 pub or-none : (a b : Bool) → (a || b) ≡ false → (a ≡ false) × (b ≡ false)
 or-none true b e = absurd (clash refl e)
@@ -49,10 +52,7 @@ states : {z x y : State} (f : State → Bool) → z ≡ x → z ≡ y → f x �
 states f p q a b = clash (ap f p ∙ a) (ap f q ∙ b)
 
 -- what the step does at unit u, as seen by a core that it does not grant
-module _ (t : Table) (g : Good t) (z : Step) (a : Accepted t z) where
-  pub stepped-counts : step t z .table .counts ≡ t .counts
-  stepped-counts = ap (λ (x : Table). x .counts) (a .table) ∙ settle-same (moves t z) .1 ∙ spared t g z (a .may) .counts
-
+module _ (t : Table) (z : Step) (a : Accepted t z) where
   pub due-gives : (u k : ℕ) → u < units → Due (unitOf (moves t z) u) (coreNo k) → gives u k (listed (step t z .grants)) ≡ true
   due-gives u k h d =
       at-gives u k (listed (step t z .grants))
@@ -70,7 +70,7 @@ module _ (t : Table) (g : Good t) (z : Step) (a : Accepted t z) where
       go false e = e
       go true e =
           ⊎-elim (λ f. absurd (clash f clear)) (λ d. absurd (clash (due-gives u k h d) ungranted))
-          (settled-new (moves t z) (a .shaped) u h k (rw (a .table) at e))
+          (settled-new (moves t z) (a .shaped) u h k (rw (stepped t z a) at e))
 
 -- e is the place after the entry
 pub record Stands (e : Place) (c k u : ℕ) (p : Place) : Type 0 where
@@ -99,7 +99,7 @@ module _ (c : ℕ) (p : Place) (n : Numbered c p) (s : Step) (k u : ℕ) (entry 
 
   record Entering : Type 0 where
     accepted : done t s ≡ true
-    core : whose s ≡ k
+    core : whose s .0 ≡ k
     at : entersAt t s u ≡ true
     class : u < t .counts .first
     ungranted : gives u k (grants p s) ≡ false
@@ -107,7 +107,7 @@ module _ (c : ℕ) (p : Place) (n : Numbered c p) (s : Step) (k u : ℕ) (entry 
   entering : Entering
   entering =
       let a = done t s in
-      let b = a && eqb (whose s) k in
+      let b = a && eqb (whose s .0) k in
       let d = b && entersAt t s u in
       let f = d && ltb u (t .counts .first) in
       let e3 = and-left f _ entry in
@@ -115,7 +115,7 @@ module _ (c : ℕ) (p : Place) (n : Numbered c p) (s : Step) (k u : ℕ) (entry 
       let e1 = and-left b _ e2 in
       record {
         accepted = and-left a _ e1;
-        core = eqb-true (whose s) k (and-right a _ e1);
+        core = eqb-true (whose s .0) k (and-right a _ e1);
         at = and-right b _ e2;
         class = ltb-true u (t .counts .first) (and-right d _ e3);
         ungranted = not-true-false (gives u k (grants p s)) (and-right f _ entry);
@@ -127,34 +127,34 @@ module _ (c : ℕ) (p : Place) (n : Numbered c p) (s : Step) (k u : ℕ) (entry 
   entered : Entered k u (moves t s)
   entered = go s (entering .core) (entering .at) taken
     where
-      go : (s : Step) → whose s ≡ k → entersAt t s u ≡ true → Accepted t s → Entered k u (moves t s)
-      go (R j v) same at a =
-          let q = eqb-true (v .0) u at in
-          let i = request-in t j (whole t (n .good .sound)) v (a .may) in
-          let c' = requested-core t (n .good) j v (a .may) in
-          let t' = withCounter t (ticket (after (t .counter .0))) in
-          let r = register-same t' (v .0) (j .0) (standing (t .counter)) (shaped-counter t _ (n .good .shaped)) (i .1) (i .0) in
+      -- with its register at unit v entered
+      at-unit :
+          (s : Step) (v : UnitNo) (m : Ticket) →
+          whose s .0 ≡ k →
+          v .0 ≡ u →
+          Accepted t s →
+          effectOn t s .does ≡ Enter v m →
+          effectOn t s .core .state ≡ Waiting →
+          effectOn t s .core .first ≡ v →
+          Entered k u (moves t s)
+      at-unit s v m same q a does state first =
+          let h : v .0 < units = rw q (first-class t (n .good) u (entering .class)) in
+          let r = affected-shown t (n .good .shaped) (whose s .0) (a .small) (v .0) h (effectOn t s) in
           rw (← same, ← q)
           (record {
-            state = ap (λ (x : Core). x .state) c';
-            first = ap (λ (x : Core). x .first .0) c';
-            clear = ap (λ (x : Register). x .flag) r;
+            state = ap (λ (x : Core). x .state) (a .moved .becomes) ∙ state;
+            first = ap (λ (x : Core). x .first .0) (a .moved .becomes) ∙ ap (λ (x : UnitNo). x .0) first;
+            clear = ap (λ (x : Register). x .flag) r ∙ simp (does, eq-eqb (v .0) (v .0) refl);
           })
+
+      go : (s : Step) → whose s .0 ≡ k → entersAt t s u ≡ true → Accepted t s → Entered k u (moves t s)
+      go (R j v) same at a = at-unit (R j v) v (t .counter) same (eqb-true (v .0) u at) a refl refl refl
       go (N j v) same at a = absurd (clash at refl)
       go (P j) same at a = absurd (clash at refl)
       go (I j) same at a = absurd (clash at refl)
       go (C j) same at a =
-          let q = eqb-true (coreOf t (j .0) .first .0) u at in
-          let i = come-back-in t j (whole t (n .good .sound)) (a .may) in
-          let c' = returned-core t (n .good) j (a .may) in
-          let b = coreOf t (j .0) in
-          let r = register-same t (b .first .0) (j .0) (standing (b .own)) (n .good .shaped) (i .1) (i .0) in
-          rw (← same, ← q)
-          (record {
-            state = ap (λ (x : Core). x .state) c';
-            first = ap (λ (x : Core). x .first .0) c';
-            clear = ap (λ (x : Register). x .flag) r;
-          })
+          let c' = coreOf t (j .0) in
+          at-unit (C j) (c' .first) (c' .own) same (eqb-true (c' .first .0) u at) a refl refl refl
       go (L j) same at a = absurd (clash at refl)
 
   pub stands-entry : Stands (onward p s) c k u (onward p s)
@@ -165,8 +165,8 @@ module _ (c : ℕ) (p : Place) (n : Numbered c p) (s : Step) (k u : ℕ) (entry 
         numbered = numbered-onward c p n s;
         state = ap (λ (x : Core). x .state) (stepped-core t s a k) ∙ entered .state;
         first = ap (λ (x : Core). x .first .0) (stepped-core t s a k) ∙ entered .first;
-        clear = stays-clear t g s a u k (first-class t g u (entering .class)) (entered .clear) (entering .ungranted);
-        class = rw (stepped-counts t g s a) (entering .class);
+        clear = stays-clear t s a u k (first-class t g u (entering .class)) (entered .clear) (entering .ungranted);
+        class = rw (stepped-counts t s a) (entering .class);
         issue = refl;
         earlier = λ j live less.
             at-some (λ (i : ℕ). isEarlier (onward p s) k i && eqb (onward p s .issue i) (onward p s .issue j)) cores j
@@ -225,17 +225,17 @@ module _ (e : Place) (c k u : ℕ) (p : Place) (w : Stands e c k u p) (z : Step)
   issue-stays = issue-kept p z k unasked ∙ w .issue
 
   pub unmoved : Accepted x z → Unmoved x k u (moves x z)
-  unmoved a = go (same-or-not k (whose z))
+  unmoved a = go (same-or-not k (whose z .0))
     where
-      own : (z : Step) → k ≡ whose z → Accepted x z → interrupts x z k ≡ false → Unmoved x k u (moves x z)
+      own : (z : Step) → k ≡ whose z .0 → Accepted x z → interrupts x z k ≡ false → Unmoved x k u (moves x z)
       own (R j v) q a i = absurd (states isIdle (rw (← q) at (may-request x j v (a .may) .state)) (w .state) refl refl)
       own (N j v) q a i = absurd (states holds (rw (← q) at (may-nest x j v (a .may) .state)) (w .state) refl refl)
       own (P j) q a i =
-          poll-cases x (j .0) (Unmoved x k u)
+          poll-moves x j (Unmoved x k u)
           (λ f. absurd (clash (rw (← q) at f) (rw (w .state, w .first) (w .clear))))
           (λ f two. absurd (clash (rw (← q) at two) (ap twoStage (w .state))))
           (record { core = refl; register = refl })
-      own (I j) q a i = absurd (clash (and-both (eq-eqb (j .0) k (sym q)) (interrupt-done x g j (a .may))) i)
+      own (I j) q a i = absurd (clash (and-both (eq-eqb (j .0) k (sym q)) (answers-done x (I j) a refl)) i)
       own (C j) q a i = absurd (states waits (w .state) (rw (← q) at (may-come-back x j (a .may) .1)) refl refl)
       own (L j) q a i =
           ⊎-elim
@@ -243,9 +243,9 @@ module _ (e : Place) (c k u : ℕ) (p : Place) (w : Stands e c k u p) (z : Step)
           (λ h. absurd (states holds (rw (← q) at h) (w .state) refl refl))
           (may-release x j (a .may) .1)
 
-      go : (k ≡ whose z) ⊎ (k ≢ whose z) → Unmoved x k u (moves x z)
+      go : (k ≡ whose z .0) ⊎ (k ≢ whose z .0) → Unmoved x k u (moves x z)
       go (inl q) = own z q a uninterrupted
-      go (inr d) = record { core = spared x g z (a .may) .core k d; register = spared x g z (a .may) .register u k d }
+      go (inr d) = record { core = a .moved .others k d; register = a .moved .registers u place k d }
 
   pub stands-onward : Stands e c k u (onward p z)
   stands-onward =
@@ -256,8 +256,8 @@ module _ (e : Place) (c k u : ℕ) (p : Place) (w : Stands e c k u p) (z : Step)
         numbered = n;
         state = ap (λ (y : Core). y .state) (stepped-core x z a k ∙ unmoved a .core) ∙ w .state;
         first = ap (λ (y : Core). y .first .0) (stepped-core x z a k ∙ unmoved a .core) ∙ w .first;
-        clear = stays-clear x g z a u k place (ap (λ (r : Register). r .flag) (unmoved a .register) ∙ w .clear) ungranted;
-        class = rw (stepped-counts x g z a) (w .class);
+        clear = stays-clear x z a u k place (ap (λ (r : Register). r .flag) (unmoved a .register) ∙ w .clear) ungranted;
+        class = rw (stepped-counts x z a) (w .class);
         issue = issue-stays;
         earlier = still;
       })
@@ -295,7 +295,7 @@ pub stands-after :
     (more : List Step) →
     stretch k u p more ≡ true →
     Stands e c k u (afterAll p more)
-unfolding stretch afterAll
+unfolding over
 stands-after e c k u p w [] q = w
 stands-after e c k u p w (z ∷ more) q =
     let on = not-true-false (leaves k u p z) (and-left (not (leaves k u p z)) _ q) in

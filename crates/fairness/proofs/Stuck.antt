@@ -1,39 +1,36 @@
 -- Never stuck. The unit where a core stands has a flag. Its core holds all it asked for, or would be granted at its next poll, or waits
 -- at a second-class unit without its flag; that unit has a flag too, and its core can wait nowhere else.
 use Prim.Native.Nat.{ℕ, _≤_, _<_}
-use mathlib.Core.Bool.{Bool, true, false, cond, _&&_}
+use mathlib.Core.Bool.{Bool, true, false}
 use mathlib.Core.Logic.{_⊎_, inl, inr, ⊎-elim}
 use mathlib.Core.Path.{_≡_, refl, _∙_, ap}
 use native.Mathlib.Omega.{arith}
-use lib.Dec.{eqb, ltb}
-use borrow.Author.Tests.{eqb-true, eq-eqb, ne-eqb, ltb-true, lt-leb}
-use Rattle.ticket.specs.declared.kinds.Ticket.{Ticket}
+use borrow.Author.Tests.{eqb-true, eq-eqb, ne-eqb, lt-leb}
 use Rattle.parts.specs.Fold.{some, one}
-use Rattle.parts.specs.State.{isIdle, waits, holds, stands, holdsFirst, holdsBoth, twoStage}
+use Rattle.parts.specs.State.{isIdle, waits, holds, stands, twoStage}
 use Rattle.parts.specs.Parts.{cores, units, coreNo}
 use Rattle.block.specs.Table.{coreOf, unitOf, registerOf}
 use Rattle.parts.specs.Answer.{numberOf}
-use Rattle.plan.specs.Settle.{flags}
+use Rattle.settling.specs.Line.{flags}
 use Rattle.block.specs.Sound as S
 use Rattle.block.specs.Parts.{Sound}
-use Rattle.block.specs.Steps.{awaited, granted, notYet, polled, onSound, step}
-use Rattle.block.specs.Verdict.{answered, noCore, mayPoll}
-use Rattle.parts.specs.declared.kinds.Core.{Core}
-use Rattle.parts.specs.declared.kinds.Register.{Register}
+use Rattle.block.specs.Steps.{awaited, verdict, step}
 use Rattle.parts.specs.declared.kinds.State.{State}
 use Rattle.parts.specs.declared.kinds.State.the-variants.{Idle, Waiting, Holding, WaitingSecond, HoldingBoth, Away}
+use Rattle.effects.specs.declared.kinds.Effect.{Effect}
 use Rattle.block.specs.declared.table.Table.{Table}
 use Rattle.parts.specs.declared.answer.Step.the-variants.{P}
 use Rattle.block.specs.declared.stepped.Stepped.{Stepped}
-use Rattle.refusals.specs.declared.verdict.Verdict.{Verdict}
 use Rattle.refusals.specs.declared.verdict.Verdict.the-variants.{Allowed}
-use Rattle.parts.proofs.Bools.{and-left, and-right, or-cases, clash}
+use Rattle.parts.proofs.Bools.{clash}
 use Rattle.parts.proofs.Folds.{some-at, at-some, some-none, none-count}
-use Rattle.block.proofs.Standing.{first-in, second-after, blank-is}
+use Rattle.block.proofs.Standing.{first-in, second-after}
+use Rattle.block.proofs.Stepping.{poll-cases}
+use Rattle.laws.proofs.Agreeing.{AtFirst, AtSecond, shows, flag-at}
 use Rattle.laws.proofs.Keeping.{Good}
-use Rattle.laws.proofs.Kept.{names-two}
+use Rattle.laws.proofs.Kept.{names-two, live-within}
 use Rattle.fairness.specs.Fair.{NeverStuck}
-use Rattle.fairness.proofs.Effects.{on-good}
+use Rattle.fairness.proofs.Effects.{accepted}
 use Rattle.fairness.proofs.Invariant.{Live, live-small, numbered}
 
 -- core j holds all it asked for, or would be granted
@@ -62,29 +59,6 @@ flag-there t s u k h l v = go (some flag cores) refl
         let same = eqb-true (flags (unitOf t u)) (one (S.anyValid (unitOf t u))) (s .unit u h .oneFlag) in
         absurd (omega arith)
 
-shown-valid : (r : Register) (n : Ticket) (held : Bool) → S.shows r n held ≡ true → r .valid ≡ true
-shown-valid r n held e = and-left (r .valid) _ (and-left (r .valid && eqb (r .ticket .0) (n .0)) _ e)
-
--- where a flag is set the core stands: at its first unit, or at its second
-flag-stands :
-    (c : Core) (u : ℕ) (r : Register) →
-    S.agrees c u r ≡ true →
-    r .flag ≡ true →
-    ((stands (c .state) ≡ true) × (u ≡ c .first .0)) ⊎ ((twoStage (c .state) ≡ true) × (u ≡ c .second .0))
-flag-stands c u r agrees f =
-    go (stands (c .state) && eqb u (c .first .0)) refl (twoStage (c .state) && eqb u (c .second .0)) refl agrees
-  where
-    go :
-        (a : Bool) →
-        (stands (c .state) && eqb u (c .first .0)) ≡ a →
-        (b : Bool) →
-        (twoStage (c .state) && eqb u (c .second .0)) ≡ b →
-        cond a (S.shows r (c .own) (holdsFirst (c .state))) (cond b (S.shows r (c .carried) (holdsBoth (c .state))) (S.isBlank r)) ≡ true →
-        ((stands (c .state) ≡ true) × (u ≡ c .first .0)) ⊎ ((twoStage (c .state) ≡ true) × (u ≡ c .second .0))
-    go true x b y e = inl (and-left (stands (c .state)) _ x, eqb-true u (c .first .0) (and-right (stands (c .state)) _ x))
-    go false x true y e = inr (and-left (twoStage (c .state)) _ y, eqb-true u (c .second .0) (and-right (twoStage (c .state)) _ y))
-    go false x false y e = absurd (clash f (ap (λ (z : Register). z .flag) (blank-is r e)))
-
 module _ (t : Table) (g : Good t) where
   -- a core that waits with its flag set is answered 1
   granted-next :
@@ -93,15 +67,11 @@ module _ (t : Table) (g : Good t) where
       Live t j →
       registerOf t (awaited (coreOf t j)) j .flag ≡ true →
       numberOf (step t (P (coreNo j)) .answer) ≡ 1
-  unfolding onSound
   granted-next j w live f =
-      let within = g .sound .core j (live-small t (g .shaped) j live) .within in
-      let in-table = ⊎-elim (λ e. e) (λ e. absurd (clash e live)) (or-cases (ltb j (t .counts .cores)) _ within) in
-      let there : noCore t (coreNo j) ≡ false = lt-leb (t .counts .cores) j (ltb-true j (t .counts .cores) in-table) in
-      let may : mayPoll t (coreNo j) ≡ Allowed = simp (there, w) in
-      ap (λ (x : Stepped). numberOf (x .answer))
-      (on-good t g (P (coreNo j)) ∙ ap (λ (v : Verdict). answered t v (polled t j)) may) ∙
-      ap (λ (b : Bool). numberOf (cond b (granted t j) (notYet t j) .answer)) f
+      let within = live-within t (g .sound) j (live-small t (g .shaped) j live) live in
+      let may : verdict t (P (coreNo j)) ≡ Allowed = simp (lt-leb (t .counts .cores) j within, w) in
+      ap (λ (x : Stepped). numberOf (x .answer)) (accepted t g (P (coreNo j)) may .works) ∙
+      poll-cases t (coreNo j) (λ (e : Effect). numberOf (e .answer) ≡ 1) (λ set. refl) (λ clear two. absurd (clash f clear)) (λ clear one. absurd (clash f clear))
 
   -- the core of a flag goes, or waits at its second unit
   flag-goes :
@@ -110,18 +80,17 @@ module _ (t : Table) (g : Good t) where
       j < cores →
       registerOf t u j .flag ≡ true →
       Goes t j ⊎ ((coreOf t j .state ≡ WaitingSecond) × (registerOf t (coreOf t j .second .0) j .flag ≡ false))
-  flag-goes u j h l f = go (coreOf t j .state) refl (flag-stands (coreOf t j) u (registerOf t u j) (g .sound .unit u h .agrees j l) f)
+  flag-goes u j h l f = go (coreOf t j .state) refl (flag-at (coreOf t j) u (registerOf t u j) (g .sound .unit u h .agrees j l) f)
     where
       go :
           (z : State) →
           coreOf t j .state ≡ z →
-          ((stands (coreOf t j .state) ≡ true) × (u ≡ coreOf t j .first .0)) ⊎
-          ((twoStage (coreOf t j .state) ≡ true) × (u ≡ coreOf t j .second .0)) →
+          AtFirst (coreOf t j) u (registerOf t u j) ⊎ AtSecond (coreOf t j) u (registerOf t u j) →
           Goes t j ⊎ ((coreOf t j .state ≡ WaitingSecond) × (registerOf t (coreOf t j .second .0) j .flag ≡ false))
-      go Idle e (inl a) = absurd (clash (a .0) (ap stands e))
-      go Idle e (inr a) = absurd (clash (a .0) (ap twoStage e))
-      go Waiting e (inl a) = inl (inr (granted-next j (ap waits e) (ap isIdle e) (simp e (rw (a .1) at f))))
-      go Waiting e (inr a) = absurd (clash (a .0) (ap twoStage e))
+      go Idle e (inl a) = absurd (clash (a .stands) (ap stands e))
+      go Idle e (inr a) = absurd (clash (a .two) (ap twoStage e))
+      go Waiting e (inl a) = inl (inr (granted-next j (ap waits e) (ap isIdle e) (simp e (rw (a .unit) at f))))
+      go Waiting e (inr a) = absurd (clash (a .two) (ap twoStage e))
       go Holding e a = inl (inl (ap holds e))
       go WaitingSecond e a = second (registerOf t (coreOf t j .second .0) j .flag) refl
         where
@@ -132,8 +101,8 @@ module _ (t : Table) (g : Good t) where
           second true q = inl (inr (granted-next j (ap waits e) (ap isIdle e) (simp e q)))
           second false q = inr (e, q)
       go HoldingBoth e a = inl (inl (ap holds e))
-      go Away e (inl a) = absurd (clash (a .0) (ap stands e))
-      go Away e (inr a) = absurd (clash (a .0) (ap twoStage e))
+      go Away e (inl a) = absurd (clash (a .stands) (ap stands e))
+      go Away e (inr a) = absurd (clash (a .two) (ap twoStage e))
 
   -- whoever has the flag of the second unit that a core waits at goes
   second-goes : (j : ℕ) → j < cores → coreOf t j .state ≡ WaitingSecond → (i : ℕ) × Goes t i
@@ -143,8 +112,8 @@ module _ (t : Table) (g : Good t) where
       let h = second-after t (g .sound) j l (ap isIdle e) (ap twoStage e) .1 in
       let apart = ne-eqb (c .second .0) (c .first .0) (λ q. omega arith) in
       let agrees = g .sound .unit (c .second .0) h .agrees j l in
-      let v = shown-valid (registerOf t (c .second .0) j) (c .carried) false
-      (simp (e, apart, eq-eqb (c .second .0) (c .second .0) refl) at agrees) in
+      let v = shows (registerOf t (c .second .0) j) (c .carried) false
+      (simp (e, apart, eq-eqb (c .second .0) (c .second .0) refl) at agrees) .valid in
       let w = flag-there t (g .sound) (c .second .0) j h l v in
       let i = w .0 in
       (i, other i (w .1) (c .second .0) h (names .low) (w .2) (flag-goes (c .second .0) i h (w .1) (w .2)))
@@ -161,16 +130,13 @@ module _ (t : Table) (g : Good t) where
           registerOf t (coreOf t i .second .0) i .flag ≡ false →
           ⊥
       nowhere i m u h low f e clear =
-          ⊎-elim first second (flag-stands (coreOf t i) u (registerOf t u i) (g .sound .unit u h .agrees i m) f)
-        where
-          first : (stands (coreOf t i .state) ≡ true) × (u ≡ coreOf t i .first .0) → ⊥
-          first a =
-              let names = names-two t (coreOf t i) (simp e at (g .sound .core i m .named)) in
-              let q = a .1 in
-              omega arith
-
-          second : (twoStage (coreOf t i .state) ≡ true) × (u ≡ coreOf t i .second .0) → ⊥
-          second a = clash (rw (a .1) at f) clear
+          ⊎-elim
+          (λ a.
+          let names = names-two t (coreOf t i) (simp e at (g .sound .core i m .named)) in
+          let q = a .unit in
+          omega arith)
+          (λ a. clash (rw (a .unit) at f) clear)
+          (flag-at (coreOf t i) u (registerOf t u i) (g .sound .unit u h .agrees i m) f)
 
       other :
           (i : ℕ) →
@@ -201,8 +167,8 @@ module _ (t : Table) (g : Good t) where
           let l = live-small t (g .shaped) k (ap isIdle e) in
           let h = first-in t (g .sound) k l (ap isIdle e) in
           let agrees = g .sound .unit (c .first .0) h .agrees k l in
-          let v = shown-valid (registerOf t (c .first .0) k) (c .own) false
-          (simp (e, eq-eqb (c .first .0) (c .first .0) refl) at agrees) in
+          let v = shows (registerOf t (c .first .0) k) (c .own) false
+          (simp (e, eq-eqb (c .first .0) (c .first .0) refl) at agrees) .valid in
           let w = flag-there t (g .sound) (c .first .0) k h l v in
           found (w .0) (w .1) (flag-goes (c .first .0) (w .0) h (w .1) (w .2))
 

@@ -13,7 +13,7 @@ use Rattle.parts.specs.Answer.{numberOf}
 use Rattle.block.specs.Steps.{step}
 use Rattle.parts.specs.declared.answer.Step.{Step}
 use Rattle.parts.specs.declared.answer.Step.the-variants.{P}
-use Rattle.fairness.specs.Run.{Place, Reached, onward, after}
+use Rattle.fairness.specs.Run.{Place, Reached, onward, afterAll}
 use Rattle.fairness.specs.Stretch.{grants, gives, enters, leaves, stretch, live, earlier, passed, interruptions}
 
 -- "that unit goes only to tickets issued earlier": z is any later step of the stretch, and j whom it grants the unit
@@ -23,9 +23,9 @@ NoOvertaking =
     Reached p →
     enters p s k u ≡ true →
     stretch k u (onward p s) more ≡ true →
-    leaves k u (after (onward p s) more) z ≡ false →
-    gives u j (grants (after (onward p s) more) z) ≡ true →
-    onward (after (onward p s) more) z .issue j < onward p s .issue k
+    leaves k u (afterAll (onward p s) more) z ≡ false →
+    gives u j (grants (afterAll (onward p s) more) z) ≡ true →
+    onward (afterAll (onward p s) more) z .issue j < onward p s .issue k
 
 -- "at most as often as earlier tickets were live at its entry plus the interrupts accepted meanwhile from the cores that own them"
 abbrev pub Bound : Type 0

@@ -2,29 +2,21 @@
 -- never the comparison": the n-th accepted request, from 0, has issue number n, which never wraps.
 use Prim.Native.Nat.{ℕ, _+_, _<_}
 use mathlib.Core.Bool.{Bool, true, false, cond, _&&_}
-use mathlib.Core.List.{List, [], _∷_}
+use mathlib.Core.List.{List}
 use mathlib.Core.Path.{_≡_}
 use lib.Dec.{eqb}
 use Rattle.ticket.specs.Order.{circle}
 use Rattle.ticket.specs.declared.kinds.Ticket.{Ticket}
 use Rattle.parts.specs.Fold.{one}
-use Rattle.parts.specs.Answer.{numberOf}
+use Rattle.parts.specs.Answer.{whose, numberOf}
 use Rattle.parts.specs.Range.{inRange}
 use Rattle.building.specs.Build.{fresh}
 use Rattle.block.specs.Steps.{step}
+use Rattle.block.specs.Over.{lastPlace}
 use Rattle.parts.specs.declared.kinds.Counts.{Counts}
 use Rattle.block.specs.declared.table.Table.{Table}
 use Rattle.parts.specs.declared.answer.Step.{Step}
 use Rattle.parts.specs.declared.answer.Step.the-variants.{R, N, P, I, C, L}
-
--- the core that a step names
-abbrev pub whose : Step → ℕ
-whose (R k u) = k .0
-whose (N k u) = k .0
-whose (P k) = k .0
-whose (I k) = k .0
-whose (C k) = k .0
-whose (L k) = k .0
 
 -- answered 0
 abbrev pub done : Table → Step → Bool
@@ -60,14 +52,13 @@ abbrev pub onward : Place → Step → Place
 onward p s =
     record {
       table = step (p .table) s .table;
-      issued = p .issued + one (requests (p .table) s (whose s));
+      issued = p .issued + one (requests (p .table) s (whose s .0));
       issue = λ (j : ℕ). cond (requests (p .table) s j) (p .issued) (p .issue j);
     }
 
 -- the place after a list of steps, accepted or refused
-unfoldable pub after : Place → List Step → Place
-after p [] = p
-after p (s ∷ more) = after (onward p s) more
+abbrev pub afterAll : Place → List Step → Place
+afterAll p steps = lastPlace onward p steps
 
 abbrev pub start : Counts → Ticket → Place
 start c n = record { table = fresh c n; issued = 0; issue = λ (j : ℕ). 0 }
@@ -78,5 +69,5 @@ pub record Reached (p : Place) : Type 0 where
   pub counter : Ticket
   pub steps : List Step
   pub good : inRange counts ≡ true
-  pub fits : counter .0 < circle
-  pub run : after (start counts counter) steps ≡ p
+  pub counterFits : counter .0 < circle
+  pub run : afterAll (start counts counter) steps ≡ p

@@ -6,15 +6,17 @@ use mathlib.Core.List.{List, [], _∷_}
 use lib.Dec.{eqb, ltb}
 use Rattle.ticket.specs.declared.kinds.Grant.{Grant}
 use Rattle.parts.specs.Fold.{some, one, count}
+use Rattle.parts.specs.Answer.{whose}
 use Rattle.parts.specs.State.{isIdle}
 use Rattle.parts.specs.Parts.{cores}
 use Rattle.block.specs.Table.{coreOf}
 use Rattle.block.specs.Steps.{step}
+use Rattle.block.specs.Over.{over}
 use Rattle.block.specs.declared.table.Table.{Table}
 use Rattle.parts.specs.declared.answer.Step.{Step}
 use Rattle.parts.specs.declared.answer.Step.the-variants.{R, N, P, I, C, L}
 use Rattle.laws.specs.Granting.{listed}
-use Rattle.fairness.specs.Run.{Place, whose, done, interrupts, onward}
+use Rattle.fairness.specs.Run.{Place, done, interrupts, onward}
 
 -- the grants of a step from here; whether one is of unit u to core k; how many are of unit u
 abbrev pub grants : Place → Step → List Grant
@@ -41,7 +43,7 @@ entersAt t (L k) u = false
 abbrev pub enters : Place → Step → ℕ → ℕ → Bool
 enters p s k u =
     done (p .table) s &&
-    eqb (whose s) k &&
+    eqb (whose s .0) k &&
     entersAt (p .table) s u &&
     ltb u (p .table .counts .first) &&
     not (gives u k (grants p s))
@@ -51,9 +53,8 @@ abbrev pub leaves : ℕ → ℕ → Place → Step → Bool
 leaves k u p s = gives u k (grants p s) || interrupts (p .table) s k
 
 -- none of the steps ends the stretch
-unfoldable pub stretch : ℕ → ℕ → Place → List Step → Bool
-stretch k u p [] = true
-stretch k u p (s ∷ more) = not (leaves k u p s) && stretch k u (onward p s) more
+abbrev pub stretch : ℕ → ℕ → Place → List Step → Bool
+stretch k u p steps = over onward (λ q. true) (λ q s later. not (leaves k u q s) && later) p steps
 
 -- "A ticket is live from its request to its release, also while its core is away."
 abbrev pub live : Place → ℕ → Bool
@@ -71,12 +72,11 @@ abbrev pub among : Place → ℕ → ℕ → Bool
 among e k i = some (λ (j : ℕ). isEarlier e k j && eqb (e .issue j) i) cores
 
 -- how often unit u was granted in the steps
-unfoldable pub passed : ℕ → Place → List Step → ℕ
-passed u p [] = 0
-passed u p (s ∷ more) = grantsOf u (grants p s) + passed u (onward p s) more
+abbrev pub passed : ℕ → Place → List Step → ℕ
+passed u p steps = over onward (λ q. 0) (λ q s later. grantsOf u (grants q s) + later) p steps
 
 -- "the interrupts accepted meanwhile from the cores that own them": each by the number that the core's ticket has then
-unfoldable pub interruptions : Place → ℕ → Place → List Step → ℕ
-interruptions e k p [] = 0
-interruptions e k p (s ∷ more) =
-    one (interrupts (p .table) s (whose s) && among e k (p .issue (whose s))) + interruptions e k (onward p s) more
+abbrev pub interruptions : Place → ℕ → Place → List Step → ℕ
+interruptions e k p steps =
+    over onward (λ q. 0)
+    (λ q s later. one (interrupts (q .table) s (whose s .0) && among e k (q .issue (whose s .0))) + later) p steps

@@ -3,6 +3,7 @@
 // grant, parted by tabs.
 //
 // The stored output is what second/grid.py prints: a model written from document 01 alone.
+use block::Stepped;
 use block::Table;
 use libc::STDOUT_FILENO;
 use parts::Counts;
@@ -35,22 +36,22 @@ fn main() {
 // Each letter for core 0, with units of both classes and one past them; and each for a core past
 // the count.
 fn tries(t: Table) {
-    request(t, 0, 0);
-    request(t, 0, 3);
-    request(t, 0, 4);
-    nest(t, 0, 0);
-    nest(t, 0, 3);
-    nest(t, 0, 4);
-    poll(t, 0);
-    interrupt(t, 0);
-    come_back(t, 0);
-    release(t, 0);
-    request(t, 3, 4);
-    nest(t, 3, 0);
-    poll(t, 3);
-    interrupt(t, 3);
-    come_back(t, 3);
-    release(t, 3);
+    request(t, CoreNo(0), UnitNo(0));
+    request(t, CoreNo(0), UnitNo(3));
+    request(t, CoreNo(0), UnitNo(4));
+    nest(t, CoreNo(0), UnitNo(0));
+    nest(t, CoreNo(0), UnitNo(3));
+    nest(t, CoreNo(0), UnitNo(4));
+    poll(t, CoreNo(0));
+    interrupt(t, CoreNo(0));
+    come_back(t, CoreNo(0));
+    release(t, CoreNo(0));
+    request(t, CoreNo(3), UnitNo(4));
+    nest(t, CoreNo(3), UnitNo(0));
+    poll(t, CoreNo(3));
+    interrupt(t, CoreNo(3));
+    come_back(t, CoreNo(3));
+    release(t, CoreNo(3));
 }
 
 // Core 0 idle.
@@ -61,99 +62,99 @@ fn begin() -> Table {
 // Core 0 waiting, flag clear.
 fn waiting() -> Table {
     let t = begin();
-    let t = request(t, 1, 0);
-    request(t, 0, 0)
+    let t = request(t, CoreNo(1), UnitNo(0));
+    request(t, CoreNo(0), UnitNo(0))
 }
 
 // Core 0 waiting, flag set and not polled.
 fn unpolled() -> Table {
     let t = begin();
-    let t = request(t, 0, 0);
-    request(t, 1, 0)
+    let t = request(t, CoreNo(0), UnitNo(0));
+    request(t, CoreNo(1), UnitNo(0))
 }
 
 // Core 0 holding a first-class unit.
 fn holding() -> Table {
     let t = begin();
-    let t = request(t, 0, 0);
-    let t = request(t, 1, 0);
-    poll(t, 0)
+    let t = request(t, CoreNo(0), UnitNo(0));
+    let t = request(t, CoreNo(1), UnitNo(0));
+    poll(t, CoreNo(0))
 }
 
 // Core 0 holding a second-class unit.
 fn holding_second_class() -> Table {
     let t = begin();
-    let t = request(t, 0, 2);
-    let t = request(t, 1, 2);
-    poll(t, 0)
+    let t = request(t, CoreNo(0), UnitNo(2));
+    let t = request(t, CoreNo(1), UnitNo(2));
+    poll(t, CoreNo(0))
 }
 
 // Core 0 waiting at a second, flag clear.
 fn waiting_second() -> Table {
     let t = begin();
-    let t = request(t, 1, 2);
-    let t = request(t, 0, 0);
-    let t = poll(t, 0);
-    let t = request(t, 2, 0);
-    nest(t, 0, 2)
+    let t = request(t, CoreNo(1), UnitNo(2));
+    let t = request(t, CoreNo(0), UnitNo(0));
+    let t = poll(t, CoreNo(0));
+    let t = request(t, CoreNo(2), UnitNo(0));
+    nest(t, CoreNo(0), UnitNo(2))
 }
 
 // Core 0 the same with an older ticket to inherit.
 fn heir() -> Table {
     let t = begin();
-    let t = request(t, 2, 0);
-    let t = request(t, 1, 2);
-    let t = request(t, 0, 0);
-    let t = interrupt(t, 2);
-    let t = poll(t, 0);
-    let t = nest(t, 0, 2);
-    come_back(t, 2)
+    let t = request(t, CoreNo(2), UnitNo(0));
+    let t = request(t, CoreNo(1), UnitNo(2));
+    let t = request(t, CoreNo(0), UnitNo(0));
+    let t = interrupt(t, CoreNo(2));
+    let t = poll(t, CoreNo(0));
+    let t = nest(t, CoreNo(0), UnitNo(2));
+    come_back(t, CoreNo(2))
 }
 
 // Core 0 waiting at a second, flag set and not polled.
 fn unpolled_second() -> Table {
     let t = begin();
-    let t = request(t, 0, 0);
-    let t = poll(t, 0);
-    let t = request(t, 1, 0);
-    nest(t, 0, 2)
+    let t = request(t, CoreNo(0), UnitNo(0));
+    let t = poll(t, CoreNo(0));
+    let t = request(t, CoreNo(1), UnitNo(0));
+    nest(t, CoreNo(0), UnitNo(2))
 }
 
 // Core 0 holding both.
 fn holding_both() -> Table {
     let t = begin();
-    let t = request(t, 0, 0);
-    let t = poll(t, 0);
-    let t = request(t, 1, 0);
-    let t = nest(t, 0, 2);
-    let t = request(t, 2, 2);
-    poll(t, 0)
+    let t = request(t, CoreNo(0), UnitNo(0));
+    let t = poll(t, CoreNo(0));
+    let t = request(t, CoreNo(1), UnitNo(0));
+    let t = nest(t, CoreNo(0), UnitNo(2));
+    let t = request(t, CoreNo(2), UnitNo(2));
+    poll(t, CoreNo(0))
 }
 
 // Core 0 away.
 fn away() -> Table {
     let t = begin();
-    let t = request(t, 1, 0);
-    let t = request(t, 0, 0);
-    interrupt(t, 0)
+    let t = request(t, CoreNo(1), UnitNo(0));
+    let t = request(t, CoreNo(0), UnitNo(0));
+    interrupt(t, CoreNo(0))
 }
 
 // The run of document 01.
 fn document_run() {
     let t = build(3, 1, 1, 65535);
-    let t = request(t, 0, 1);
-    let t = poll(t, 0);
-    let t = request(t, 2, 0);
-    let t = request(t, 1, 0);
-    let t = interrupt(t, 2);
-    let t = poll(t, 1);
-    let t = nest(t, 1, 1);
-    let t = come_back(t, 2);
-    let t = poll(t, 1);
-    let t = interrupt(t, 0);
-    let t = release(t, 0);
-    let t = poll(t, 1);
-    release(t, 1);
+    let t = request(t, CoreNo(0), UnitNo(1));
+    let t = poll(t, CoreNo(0));
+    let t = request(t, CoreNo(2), UnitNo(0));
+    let t = request(t, CoreNo(1), UnitNo(0));
+    let t = interrupt(t, CoreNo(2));
+    let t = poll(t, CoreNo(1));
+    let t = nest(t, CoreNo(1), UnitNo(1));
+    let t = come_back(t, CoreNo(2));
+    let t = poll(t, CoreNo(1));
+    let t = interrupt(t, CoreNo(0));
+    let t = release(t, CoreNo(0));
+    let t = poll(t, CoreNo(1));
+    release(t, CoreNo(1));
 }
 
 // A request with ticket 0 live and this counter.
@@ -162,7 +163,7 @@ fn stretched(counter: u16) {
     let mut t = s.table;
     let n = Ticket(counter);
     t.counter = n;
-    request(t, 1, 0);
+    request(t, CoreNo(1), UnitNo(0));
 }
 
 // Each letter on a table whose blank register shows a ticket.
@@ -175,12 +176,12 @@ fn unsound() {
         flag: false,
     };
     t.units[0] = x;
-    request(t, 0, 0);
-    nest(t, 0, 2);
-    poll(t, 0);
-    interrupt(t, 0);
-    come_back(t, 0);
-    release(t, 0);
+    request(t, CoreNo(0), UnitNo(0));
+    nest(t, CoreNo(0), UnitNo(2));
+    poll(t, CoreNo(0));
+    interrupt(t, CoreNo(0));
+    come_back(t, CoreNo(0));
+    release(t, CoreNo(0));
 }
 
 // Counts at and past the ends of their ranges.
@@ -216,33 +217,32 @@ fn build(cores: u16, first: u16, second: u16, counter: u16) -> Table {
     b.table
 }
 
-fn request(t: Table, k: u16, u: u16) -> Table {
-    take(t, Step::R(CoreNo(k), UnitNo(u)))
+fn request(t: Table, k: CoreNo, u: UnitNo) -> Table {
+    shown(t.request(k, u))
 }
 
-fn nest(t: Table, k: u16, u: u16) -> Table {
-    take(t, Step::N(CoreNo(k), UnitNo(u)))
+fn nest(t: Table, k: CoreNo, u: UnitNo) -> Table {
+    shown(t.nest(k, u))
 }
 
-fn poll(t: Table, k: u16) -> Table {
-    take(t, Step::P(CoreNo(k)))
+fn poll(t: Table, k: CoreNo) -> Table {
+    shown(t.poll(k))
 }
 
-fn interrupt(t: Table, k: u16) -> Table {
-    take(t, Step::I(CoreNo(k)))
+fn interrupt(t: Table, k: CoreNo) -> Table {
+    shown(t.interrupt(k))
 }
 
-fn come_back(t: Table, k: u16) -> Table {
-    take(t, Step::C(CoreNo(k)))
+fn come_back(t: Table, k: CoreNo) -> Table {
+    shown(t.come_back(k))
 }
 
-fn release(t: Table, k: u16) -> Table {
-    take(t, Step::L(CoreNo(k)))
+fn release(t: Table, k: CoreNo) -> Table {
+    shown(t.release(k))
 }
 
-// Takes one step and writes what it shows.
-fn take(t: Table, s: Step) -> Table {
-    let r = t.step(s);
+// Writes what a step shows, and hands back its table.
+fn shown(r: Stepped) -> Table {
     let a = r.answer;
     let n = r.ticket;
     let g = r.grants;

@@ -13,7 +13,7 @@ use Rattle.parts.specs.declared.kinds.Counts.{Counts}
 use Rattle.parts.specs.declared.kinds.LockUnit.{LockUnit}
 use Rattle.parts.proofs.Bools.{and-left, and-right}
 use Rattle.parts.proofs.Folds.{every-at}
-use Rattle.words.specs.Word.{fits, unpack, isGood}
+use Rattle.words.specs.Word.{packable, unpack, isGood}
 use Rattle.images.specs.Image.{wordCount, registerAt, goodWord, goodImage, writable}
 
 module _ (c : Counts) (ws : List ℕ) (good : goodImage c ws ≡ true) where
@@ -29,13 +29,13 @@ module _ (c : Counts) (ws : List ℕ) (good : goodImage c ws ≡ true) where
 
 module _ (c : Counts) (xs : List LockUnit) (room : ℕ) (able : writable c xs room ≡ true) where
   abbrev fit : ℕ → Bool
-  fit i = fits (registerAt c xs i)
+  fit i = packable (registerAt c xs i)
 
   pub room-total : room ≡ wordCount c
   room-total = eqb-true room (wordCount c) (and-left (eqb room (wordCount c)) (every fit (wordCount c)) able)
 
-  pub register-fits : (i : ℕ) → i < wordCount c → fits (registerAt c xs i) ≡ true
-  register-fits i h = every-at fit (wordCount c) (and-right (eqb room (wordCount c)) (every fit (wordCount c)) able) i h
+  pub register-packable : (i : ℕ) → i < wordCount c → packable (registerAt c xs i) ≡ true
+  register-packable i h = every-at fit (wordCount c) (and-right (eqb room (wordCount c)) (every fit (wordCount c)) able) i h
 
 -- a test of as many as there are, where there are as many as there should be
 pub counted : (p : ℕ → Bool) (m n : ℕ) → (eqb m n && every p m) ≡ (eqb m n && every p n)

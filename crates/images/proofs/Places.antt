@@ -10,14 +10,14 @@ use lib.ListN.{length, getD, set, replicate, length-set, getD-replicate}
 use lib.Seq.{getD-set-same, getD-set-other}
 use Rattle.ticket.specs.Kinds.{ticket}
 use Rattle.parts.specs.Fold.{upTo}
-use Rattle.parts.specs.Parts.{cores, units, blank, idle, noUnit}
+use Rattle.parts.specs.Parts.{cores, units, idle, absentUnit, emptyUnit}
 use Rattle.parts.specs.Range.{inRange}
 use Rattle.parts.specs.declared.kinds.Counts.{Counts}
 use Rattle.parts.specs.declared.kinds.LockUnit.{LockUnit}
 use Rattle.parts.specs.declared.kinds.Register.{Register}
 use Rattle.block.specs.declared.table.Table.{Table}
-use Rattle.block.proofs.Access.{Shaped, same-or-not, register-same, register-core, register-unit, shaped-register}
-use Rattle.block.proofs.Along.{along, to-last}
+use Rattle.block.proofs.Access.{Shaped, register-same, register-core, register-unit, shaped-register}
+use Rattle.parts.proofs.Along.{same-or-not, along, to-last}
 use Rattle.words.specs.Word.{registerOf}
 use Rattle.images.specs.Image.{wordCount, emptyUnits, registerAt, withRegisterAt, placeWord, unitsOf}
 use Rattle.images.proofs.Ranges.{unit-in, core-in}
@@ -65,7 +65,7 @@ empty-shaped =
       cores-long = refl;
       units-long = refl;
       registers-long =
-          λ u h. ap (λ (x : LockUnit). length (x .registers)) (getD-replicate units u (record { registers = replicate cores blank }) noUnit h);
+          λ u h. ap (λ (x : LockUnit). length (x .registers)) (getD-replicate units u emptyUnit absentUnit h);
     }
 
 module _ (c : Counts) (ranged : inRange c ≡ true) where

@@ -5,7 +5,7 @@ use mathlib.Core.Path.{_≡_}
 use native.Mathlib.Nat.{div-lt-iff-lt-mul, mod-lt, mul-le-mul}
 use native.Mathlib.Omega.{arith}
 use lib.Dec.{leb}
-use mir.Syntax.{w64}
+use mir.Syntax.{w16, w64}
 use mir.Val.{Fits}
 use borrow.Author.Tests.{leb-true}
 use Rattle.parts.specs.Parts.{cores, units}
@@ -57,6 +57,10 @@ module _ (c : Counts) (e : inRange c ≡ true) where
         let l = mod-lt i divides in
         let r = ranged in
         omega arith
+
+    -- it fits a core's number
+    pub core-small : Fits w16 (i % c .cores)
+    core-small = omega (arith, core-in)
 
     pub core-offset : Fits w64 (i % c .cores * 4)
     core-offset = omega (arith, core-in)

@@ -15,15 +15,15 @@ use Rattle.parts.specs.declared.kinds.LockUnit.{LockUnit}
 use Rattle.parts.specs.declared.kinds.Register.{Register}
 use Rattle.parts.proofs.Bools.{and-both}
 use Rattle.parts.proofs.Folds.{at-every, every-cong}
-use Rattle.block.proofs.Along.{upTo-cong}
-use Rattle.words.specs.Word.{fits, wordOf, registerOf, unpack, isGood}
-use Rattle.words.proofs.Good.{narrow, good-fits}
+use Rattle.parts.proofs.Along.{upTo-cong}
+use Rattle.words.specs.Word.{packable, wordOf, registerOf, unpack, isGood}
+use Rattle.words.proofs.Good.{narrow, good-packable}
 use Rattle.words.proofs.Bits.{word-register, register-word}
 use Rattle.words.proofs.ReadsBack.{shows}
 use Rattle.images.specs.Image.{wordCount, registerAt, goodWord, goodImage, unitsOf, readImage, writable, wordsInto, writeAnswer, writeLeft}
 use Rattle.images.specs.declared.image.Image.{Image}
 use Rattle.images.specs.declared.image.ImageAnswer.the-variants.{Done, OutOfRange, BadImage}
-use Rattle.images.proofs.Good.{word-total, word-good, room-total, register-fits}
+use Rattle.images.proofs.Good.{word-total, word-good, room-total, register-packable}
 use Rattle.images.proofs.Numbers.{two-choices}
 use Rattle.images.proofs.Places.{Written, written, unit-registers}
 
@@ -46,7 +46,7 @@ module _ (c : Counts) (ranged : inRange c ≡ true) where
           and-both (eq-eqb (length (wordsInto c xs out)) (wordCount c) (all-written .long ∙ total))
           (at-every (goodWord (wordsInto c xs out)) (wordCount c)
           (λ i h. ap (λ (w : ℕ). isGood (unpack w)) (all-written .at i h) ∙
-          ap isGood (shows (registerAt c xs i) (low i h) (register-fits c xs (length out) able i h))))
+          ap isGood (shows (registerAt c xs i) (low i h) (register-packable c xs (length out) able i h))))
 
       -- and its registers are those that were written
       pub written-registers : (i : ℕ) → i < wordCount c → registerAt c (unitsOf c (wordsInto c xs out)) i ≡ registerAt c xs i
@@ -63,8 +63,8 @@ module _ (c : Counts) (ranged : inRange c ≡ true) where
     pub read-writable : writable c (unitsOf c ws) (length out) ≡ true
     read-writable =
         and-both (eq-eqb (length out) (wordCount c) room)
-        (at-every (λ (i : ℕ). fits (registerAt c (unitsOf c ws) i)) (wordCount c)
-        (λ i h. ap fits (unit-registers c ranged ws i h) ∙ good-fits (getD ws i 0) (word-good c ws good i h)))
+        (at-every (λ (i : ℕ). packable (registerAt c (unitsOf c ws) i)) (wordCount c)
+        (λ i h. ap packable (unit-registers c ranged ws i h) ∙ good-packable (getD ws i 0) (word-good c ws good i h)))
 
     -- and is written as the same words
     pub read-words : wordsInto c (unitsOf c ws) out ≡ ws
@@ -143,7 +143,7 @@ module _
     same-writable : writable c xs (length out) ≡ writable c ys (length out)
     same-writable =
         ap (λ (b : Bool). eqb (length out) (wordCount c) && b)
-        (every-cong (λ (i : ℕ). fits (registerAt c xs i)) (λ (i : ℕ). fits (registerAt c ys i)) (wordCount c) (λ i h. ap fits (same i h)))
+        (every-cong (λ (i : ℕ). packable (registerAt c xs i)) (λ (i : ℕ). packable (registerAt c ys i)) (wordCount c) (λ i h. ap packable (same i h)))
 
     same-words : wordsInto c xs out ≡ wordsInto c ys out
     same-words =

@@ -8,12 +8,12 @@ use mathlib.Core.List.{List}
 use lib.Dec.{eqb}
 use lib.ListN.{length, getD, set, replicate}
 use Rattle.parts.specs.Fold.{upTo, every}
-use Rattle.parts.specs.Parts.{cores, units, blank, noUnit, registerIn}
+use Rattle.parts.specs.Parts.{units, absentUnit, emptyUnit, registerIn, registered}
 use Rattle.parts.specs.Range.{inRange}
 use Rattle.parts.specs.declared.kinds.Register.{Register}
 use Rattle.parts.specs.declared.kinds.LockUnit.{LockUnit}
 use Rattle.parts.specs.declared.kinds.Counts.{Counts}
-use Rattle.words.specs.Word.{fits, wordOf, registerOf, unpack, isGood}
+use Rattle.words.specs.Word.{packable, wordOf, registerOf, unpack, isGood}
 use Rattle.images.specs.declared.image.Image.{Image}
 use Rattle.images.specs.declared.image.ImageAnswer.{ImageAnswer}
 use Rattle.images.specs.declared.image.ImageAnswer.the-variants.{Done, OutOfRange, BadImage}
@@ -24,15 +24,14 @@ wordCount c = (c .first + c .second) * c .cores
 
 -- no register valid
 abbrev pub emptyUnits : List LockUnit
-emptyUnits = replicate units (record { registers = replicate cores blank })
+emptyUnits = replicate units emptyUnit
 
 -- the register of word i: unit i / cores, core i mod cores
 abbrev pub registerAt : Counts → List LockUnit → ℕ → Register
-registerAt c xs i = registerIn (getD xs (i / c .cores) noUnit) (i % c .cores)
+registerAt c xs i = registerIn (getD xs (i / c .cores) absentUnit) (i % c .cores)
 
 abbrev pub withRegisterAt : Counts → List LockUnit → ℕ → Register → List LockUnit
-withRegisterAt c xs i r =
-    set xs (i / c .cores) (record { registers = set (getD xs (i / c .cores) noUnit .registers) (i % c .cores) r })
+withRegisterAt c xs i r = set xs (i / c .cores) (registered (getD xs (i / c .cores) absentUnit) (i % c .cores) r)
 
 -- Reading
 
@@ -59,7 +58,7 @@ readImage c ws =
 -- Writing
 
 abbrev pub writable : Counts → List LockUnit → ℕ → Bool
-writable c xs room = eqb room (wordCount c) && every (λ (i : ℕ). fits (registerAt c xs i)) (wordCount c)
+writable c xs room = eqb room (wordCount c) && every (λ (i : ℕ). packable (registerAt c xs i)) (wordCount c)
 
 -- the words that the room holds then
 abbrev pub wordsInto : Counts → List LockUnit → List ℕ → List ℕ

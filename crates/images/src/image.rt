@@ -1,12 +1,13 @@
 // A table's image: its units in order, each with its cores in order, one word a register.
-use parts::CORES;
 use parts::Counts;
 use parts::LockUnit;
 use parts::Register;
 use parts::UNITS;
 use parts::blank;
+use parts::empty_unit;
 use parts::in_range;
-use ticket::Ticket;
+use parts::registered;
+use ticket::CoreNo;
 use words::Packed;
 use words::Unpacked;
 use words::pack;
@@ -17,7 +18,7 @@ ghost use Prim.Native.Nat.{_<_};
 ghost use lib.ListN.{length};
 ghost use Rattle.parts.specs.Fold.{every};
 ghost use Rattle.parts.specs.Range.{inRange};
-ghost use Rattle.words.specs.Word.{fits, wordOf, registerOf, unpack, isGood};
+ghost use Rattle.words.specs.Word.{packable, wordOf, registerOf, unpack, isGood};
 ghost use Rattle.images.specs.Image.{wordCount, emptyUnits, registerAt, goodWord, goodImage, unitsOf, readImage, writable, wordsInto, writeAnswer, writeLeft};
 
 // 0: done. 20: counts out of range. 30: a bad word or register, or a number of words that is not units
@@ -47,14 +48,7 @@ fn word_count(c: Counts) -> usize
 fn empty_units() -> [LockUnit; UNITS]
     ensures { λ r. ⌜ r ≡ emptyUnits ⌝ }
 {
-    let r = Register {
-        ticket: Ticket(0),
-        valid: false,
-        flag: false,
-    };
-    let x = LockUnit {
-        registers: [r; CORES],
-    };
+    let x = empty_unit();
     [x; UNITS]
 }
 
@@ -123,10 +117,9 @@ fn units_of(c: Counts, words: &[u32]) -> [LockUnit; UNITS]
     while i < words.len() {
         let r = shown(words[i]);
         let u = i / n;
-        let k = i % n;
-        let mut x = xs[u];
-        x.registers[k] = r;
-        xs[u] = x;
+        let k = (i % n) as u16;
+        let x = xs[u];
+        xs[u] = registered(x, CoreNo(k), r);
         i += 1;
     }
     xs
@@ -157,7 +150,7 @@ pub fn read_image(c: Counts, words: &[u32]) -> Image
 
 // Whether a register is one that a word can show.
 fn shows(r: Register) -> bool
-    ensures { λ x. ⌜ x ≡ fits r ⌝ }
+    ensures { λ x. ⌜ x ≡ packable r ⌝ }
 {
     let x = pack(r);
     match x {
@@ -168,7 +161,7 @@ fn shows(r: Register) -> bool
 
 // The word that shows a register.
 fn word_for(r: Register) -> u32
-    requires { ⌜ fits r ≡ true ⌝ }
+    requires { ⌜ packable r ≡ true ⌝ }
     ensures { λ w. ⌜ w ≡ wordOf r ⌝ }
 {
     let x = pack(r);
@@ -181,7 +174,7 @@ fn word_for(r: Register) -> u32
 // Whether every register within the counts is one that a word can show.
 fn all_fit(c: Counts, units: [LockUnit; UNITS]) -> bool
     requires { ⌜ inRange c ≡ true ⌝ }
-    ensures { λ r. ⌜ r ≡ every (λ i. fits (registerAt c units i)) (wordCount c) ⌝ }
+    ensures { λ r. ⌜ r ≡ every (λ i. packable (registerAt c units i)) (wordCount c) ⌝ }
 {
     let n = word_count(c);
     let mut ok = true;

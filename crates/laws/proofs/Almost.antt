@@ -5,7 +5,7 @@ use mathlib.Core.Path.{_≡_}
 use Rattle.parts.specs.Parts.{cores, units}
 use Rattle.block.specs.Table.{coreOf, unitOf, registerOf}
 use Rattle.parts.specs.Range.{inRange}
-use Rattle.plan.specs.Settle.{flags}
+use Rattle.settling.specs.Line.{flags}
 use Rattle.block.specs.Sound as S
 use Rattle.block.specs.Parts.{CoreSound}
 use Rattle.block.specs.declared.table.Table.{Table}

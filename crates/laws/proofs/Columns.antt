@@ -13,17 +13,25 @@ use Rattle.parts.specs.Fold.{some, one}
 use Rattle.parts.specs.State.{isIdle, twoStage, unserved}
 use Rattle.parts.specs.Parts.{cores, units, core}
 use Rattle.block.specs.Table.{coreOf, unitOf, registerOf}
-use Rattle.plan.specs.Settle.{flags}
+use Rattle.settling.specs.Line.{flags}
 use Rattle.block.specs.Sound as S
 use Rattle.block.specs.Parts.{CoreSound, Sound}
 use Rattle.parts.specs.declared.kinds.Core.{Core}
 use Rattle.parts.specs.declared.kinds.Register.{Register}
 use Rattle.parts.specs.declared.kinds.State.{State}
+use Rattle.parts.specs.declared.answer.Answer.the-variants.{Done}
+use Rattle.effects.specs.Effect.{makes}
+use Rattle.effects.specs.declared.kinds.Move.{Move}
+use Rattle.effects.specs.declared.kinds.Effect.{Effect}
+use Rattle.block.specs.Steps.{affected}
 use Rattle.block.specs.declared.table.Table.{Table}
 use Rattle.parts.proofs.Bools.{and-left, and-right, and-both, or-left, or-right, clash}
 use Rattle.parts.proofs.Folds.{some-at, at-some, count-change}
-use Rattle.block.proofs.Access.{same-or-not}
+use Rattle.parts.proofs.Along.{same-or-not}
+use Rattle.parts.proofs.Ranging.{cores-few}
+use Rattle.block.proofs.Access.{Shaped}
 use Rattle.laws.proofs.Almost.{Almost}
+use Rattle.laws.proofs.Moving.{Moved, affected-moved, shown, affected-shown, shown-flag}
 
 -- two cores that are live have different own tickets
 abbrev pub Apart : Core → Core → Type 0
@@ -124,155 +132,138 @@ pub sound-almost : (t : Table) → Sound t → Almost t
 sound-almost t s =
     record { counts = s .counts; core = s .core; agrees = λ u h. s .unit u h .agrees; few = sound-few t s }
 
--- nothing but the column of core k has moved, and the core has become c
-pub record Moved (t t' : Table) (k : ℕ) (c : Core) : Type 0 where
-  pub counts : t' .counts ≡ t .counts
-  pub becomes : coreOf t' k ≡ c
-  pub others : (j : ℕ) → j ≢ k → coreOf t' j ≡ coreOf t j
-  pub registers : (u : ℕ) → u < units → (j : ℕ) → j ≢ k → registerOf t' u j ≡ registerOf t u j
+-- what the column of core k shows after the effect e is sound
+pub record Column (t : Table) (k : ℕ) (e : Effect) : Type 0 where
+  pub idleBlank : S.idleBlank (e .core) ≡ true
+  pub named : S.named t (e .core) ≡ true
+  pub recent : S.recent (affected t k e) (e .core) ≡ true
+  pub othersRecent : (j : ℕ) → j < cores → S.recent (affected t k e) (coreOf t j) ≡ true
+  pub apart : (j : ℕ) → j < cores → j ≢ k → Apart (e .core) (coreOf t j)
+  pub carries : S.carries (affected t k e) (e .core) ≡ true
+  pub lends : (j : ℕ) → j < cores → j ≢ k → twoStage (coreOf t j .state) ≡ true → Lends (coreOf t j) (coreOf t k) → Lends (coreOf t j) (e .core)
+  pub agrees : (u : ℕ) → u < units → S.agrees (e .core) u (shown t k (e .does) u) ≡ true
 
--- and what the column shows is sound
-pub record Column (t t' : Table) (k : ℕ) (c : Core) : Type 0 where
-  pub moved : Moved t t' k c
-  pub within : k < t .counts .cores
-  pub idleBlank : S.idleBlank c ≡ true
-  pub named : S.named t c ≡ true
-  pub recent : S.recent t' c ≡ true
-  pub othersRecent : (j : ℕ) → j < cores → j ≢ k → S.recent t' (coreOf t j) ≡ true
-  pub apart : (j : ℕ) → j < cores → j ≢ k → Apart c (coreOf t j)
-  pub carries : S.carries t' c ≡ true
-  pub lends :
-      (j : ℕ) →
-      j < cores →
-      j ≢ k →
-      twoStage (coreOf t j .state) ≡ true →
-      Lends (coreOf t j) (coreOf t k) →
-      Lends (coreOf t j) c
-  pub agrees : (u : ℕ) → u < units → S.agrees c u (registerOf t' u k) ≡ true
-  pub flag : (u : ℕ) → u < units → (registerOf t' u k .flag ≡ false) ⊎ (registerOf t' u k .flag ≡ registerOf t u k .flag)
+module _ (t : Table) (shaped : Shaped t) (s : Sound t) (k : ℕ) (within : k < t .counts .cores) where
+  pub small : k < cores
+  small = omega (arith, cores-few (t .counts) (s .counts))
 
-module _ (t t' : Table) (k : ℕ) (c : Core) (s : Sound t) (small : k < cores) (col : Column t t' k c) where
-  -- k's flags go out or stay, so no unit has more of them
-  column-few : (u : ℕ) → u < units → flags (unitOf t' u) ≤ 1
-  column-few u h =
-      go _ _ (col .flag u h)
-      (count-change (λ (j : ℕ). registerOf t' u j .flag) (λ (j : ℕ). registerOf t u j .flag) cores k small
-      (λ j d. ap (λ (r : Register). r .flag) (col .moved .registers u h j d)))
-      (sound-few t s u h)
-    where
-      go :
-          (b b' : Bool) →
-          (b' ≡ false) ⊎ (b' ≡ b) →
-          flags (unitOf t' u) + one b ≡ flags (unitOf t u) + one b' →
-          flags (unitOf t u) ≤ 1 →
-          flags (unitOf t' u) ≤ 1
-      go b b' (inl e) eq le = let z : one b' ≡ 0 = ap one e in omega arith
-      go b b' (inr e) eq le = let z : one b' ≡ one b = ap one e in omega arith
+  module _ (e : Effect) (col : Column t k e) where
+    abbrev t' : Table
+    t' = affected t k e
 
-  column-carries : (j : ℕ) → j < cores → j ≢ k → S.carries t' (coreOf t j) ≡ true
-  column-carries j h d =
-      carries-kept t t' (coreOf t j) (λ two i l. lender i two l (same-or-not i k)) (s .core j h .carries)
-    where
-      lender :
-          (i : ℕ) →
-          twoStage (coreOf t j .state) ≡ true →
-          S.lends (coreOf t j) (coreOf t i) ≡ true →
-          (i ≡ k) ⊎ (i ≢ k) →
-          S.lends (coreOf t j) (coreOf t' i) ≡ true
-      lender i two l (inl e) =
-          rw (e, col .moved .becomes)
-          (lending (coreOf t j) c (col .lends j h d two (lent (coreOf t j) (coreOf t k) (rw e at l))))
-      lender i two l (inr d') = rw (col .moved .others i d') l
+    m : Moved t t' k (e .core)
+    m = affected-moved t shaped k small e
 
-  -- the core that changed, and another
-  column-core : CoreSound t' k
-  column-core =
-      record {
-        within = rw (col .moved .counts) (or-left _ (lt-ltb k (t .counts .cores) (col .within)));
-        idleBlank = rw (col .moved .becomes) (col .idleBlank);
-        named = rw (col .moved .becomes, col .moved .counts) (col .named);
-        recent = rw (col .moved .becomes) (col .recent);
-        differ = λ j h.
-            apart-differ t' k j (λ d.
-            let d' : j ≢ k = λ e. d (sym e) in
-            rw (col .moved .becomes, col .moved .others j d') (col .apart j h d'));
-        carries = rw (col .moved .becomes) (col .carries);
-      }
+    -- k's flags go out or stay, so no unit has more of them
+    column-few : (u : ℕ) → u < units → flags (unitOf t' u) ≤ 1
+    column-few u h =
+        go (registerOf t u k .flag) (registerOf t' u k .flag) (rw (affected-shown t shaped k small u h e) (shown-flag t k u (e .does)))
+        (count-change (λ (j : ℕ). registerOf t' u j .flag) (λ (j : ℕ). registerOf t u j .flag) cores k small
+        (λ j d. ap (λ (r : Register). r .flag) (m .registers u h j d)))
+        (sound-few t s u h)
+      where
+        go :
+            (b b' : Bool) →
+            (b' ≡ false) ⊎ (b' ≡ b) →
+            flags (unitOf t' u) + one b ≡ flags (unitOf t u) + one b' →
+            flags (unitOf t u) ≤ 1 →
+            flags (unitOf t' u) ≤ 1
+        go b b' (inl e) eq le = let z : one b' ≡ 0 = ap one e in omega arith
+        go b b' (inr e) eq le = let z : one b' ≡ one b = ap one e in omega arith
 
-  other-core : (j : ℕ) → j < cores → j ≢ k → CoreSound t' j
-  other-core j h d =
-      let x = s .core j h in
-      record {
-        within = rw (col .moved .counts, col .moved .others j d) (x .within);
-        idleBlank = rw (col .moved .others j d) (x .idleBlank);
-        named = rw (col .moved .others j d, col .moved .counts) (x .named);
-        recent = rw (col .moved .others j d) (col .othersRecent j h d);
-        differ = λ i l. apart-differ t' j i (λ e. go i l e (same-or-not i k));
-        carries = rw (col .moved .others j d) (column-carries j h d);
-      }
-    where
-      go : (i : ℕ) → i < cores → j ≢ i → (i ≡ k) ⊎ (i ≢ k) → Apart (coreOf t' j) (coreOf t' i)
-      go i l d' (inl e) = rw (e, col .moved .becomes, col .moved .others j d) (apart-sym c (coreOf t j) (col .apart j h d))
-      go i l d' (inr e) = rw (col .moved .others i e, col .moved .others j d) (differ-apart t j i d' (s .core j h .differ i l))
+    column-carries : (j : ℕ) → j < cores → j ≢ k → S.carries t' (coreOf t j) ≡ true
+    column-carries j h d =
+        carries-kept t t' (coreOf t j) (λ two i l. lender i two l (same-or-not i k)) (s .core j h .carries)
+      where
+        lender :
+            (i : ℕ) →
+            twoStage (coreOf t j .state) ≡ true →
+            S.lends (coreOf t j) (coreOf t i) ≡ true →
+            (i ≡ k) ⊎ (i ≢ k) →
+            S.lends (coreOf t j) (coreOf t' i) ≡ true
+        lender i two l (inl e') =
+            rw (e', m .becomes) (lending (coreOf t j) (e .core) (col .lends j h d two (lent (coreOf t j) (coreOf t k) (rw e' at l))))
+        lender i two l (inr d') = rw (m .others i d') l
 
-  pub column-changed : Almost t'
-  column-changed =
-      record {
-        counts = rw (col .moved .counts) (s .counts);
-        core = λ j h. core j h (same-or-not j k);
-        agrees = λ u l j h. agrees u l j h (same-or-not j k);
-        few = column-few;
-      }
-    where
-      core : (j : ℕ) → j < cores → (j ≡ k) ⊎ (j ≢ k) → CoreSound t' j
-      core j h (inl e) = rw e column-core
-      core j h (inr d) = other-core j h d
+    -- the core that changed, and another
+    column-core : CoreSound t' k
+    column-core =
+        record {
+          within = rw (m .counts) (or-left _ (lt-ltb k (t .counts .cores) within));
+          idleBlank = rw (m .becomes) (col .idleBlank);
+          named = rw (m .becomes, m .counts) (col .named);
+          recent = rw (m .becomes) (col .recent);
+          differ = λ j h.
+              apart-differ t' k j (λ d.
+              let d' : j ≢ k = λ e. d (sym e) in
+              rw (m .becomes, m .others j d') (col .apart j h d'));
+          carries = rw (m .becomes) (col .carries);
+        }
 
-      agrees : (u : ℕ) → u < units → (j : ℕ) → j < cores → (j ≡ k) ⊎ (j ≢ k) → S.agrees (coreOf t' j) u (registerOf t' u j) ≡ true
-      agrees u l j h (inl e) = rw (e, col .moved .becomes) (col .agrees u l)
-      agrees u l j h (inr d) = rw (col .moved .others j d, col .moved .registers u l j d) (s .unit u l .agrees j h)
+    other-core : (j : ℕ) → j < cores → j ≢ k → CoreSound t' j
+    other-core j h d =
+        let x = s .core j h in
+        record {
+          within = rw (m .counts, m .others j d) (x .within);
+          idleBlank = rw (m .others j d) (x .idleBlank);
+          named = rw (m .others j d, m .counts) (x .named);
+          recent = rw (m .others j d) (col .othersRecent j h);
+          differ = λ i l. apart-differ t' j i (λ e. go i l e (same-or-not i k));
+          carries = rw (m .others j d) (column-carries j h d);
+        }
+      where
+        go : (i : ℕ) → i < cores → j ≢ i → (i ≡ k) ⊎ (i ≢ k) → Apart (coreOf t' j) (coreOf t' i)
+        go i l d' (inl q) = rw (q, m .becomes, m .others j d) (apart-sym (e .core) (coreOf t j) (col .apart j h d))
+        go i l d' (inr q) = rw (m .others i q, m .others j d) (differ-apart t j i d' (s .core j h .differ i l))
+
+    pub column-changed : Almost t'
+    column-changed =
+        record {
+          counts = rw (m .counts) (s .counts);
+          core = λ j h. core j h (same-or-not j k);
+          agrees = λ u l j h. agrees u l j h (same-or-not j k);
+          few = column-few;
+        }
+      where
+        core : (j : ℕ) → j < cores → (j ≡ k) ⊎ (j ≢ k) → CoreSound t' j
+        core j h (inl q) = rw q column-core
+        core j h (inr d) = other-core j h d
+
+        agrees : (u : ℕ) → u < units → (j : ℕ) → j < cores → (j ≡ k) ⊎ (j ≢ k) → S.agrees (coreOf t' j) u (registerOf t' u j) ≡ true
+        agrees u l j h (inl q) = rw (q, m .becomes, affected-shown t shaped k small u l e) (col .agrees u l)
+        agrees u l j h (inr d) = rw (m .others j d, m .registers u l j d) (s .unit u l .agrees j h)
 
 -- a core that keeps its own ticket and its first unit; it carries n, has v for its second unit, and its state is z
 abbrev pub stays : Core → Ticket → UnitNo → State → Core
 stays c n v z = core (c .own) n (c .first) v z
 
--- the column of a live core that does so, while the counter stands
-pub record Staying (t t' : Table) (k : ℕ) (n : Ticket) (v : UnitNo) (z : State) : Type 0 where
-  pub moved : Moved t t' k (stays (coreOf t k) n v z)
-  pub counter : t' .counter ≡ t .counter
-  pub within : k < t .counts .cores
+-- a live core does so, while the counter stands
+abbrev pub staying : Table → ℕ → Ticket → UnitNo → State → Move → Effect
+staying t k n v z d = makes (stays (coreOf t k) n v z) d Done n (t .counter)
+
+-- and its column
+pub record Staying (t : Table) (k : ℕ) (n : Ticket) (v : UnitNo) (z : State) (d : Move) : Type 0 where
   pub was : isIdle (coreOf t k .state) ≡ false
   pub live : isIdle z ≡ false
   pub named : S.names t (stays (coreOf t k) n v z) (twoStage z) ≡ true
-  pub carries : S.carries t' (stays (coreOf t k) n v z) ≡ true
-  pub lends :
-      (j : ℕ) →
-      j < cores →
-      j ≢ k →
-      twoStage (coreOf t j .state) ≡ true →
-      Lends (coreOf t j) (coreOf t k) →
-      unserved z ≡ true
-  pub agrees : (u : ℕ) → u < units → S.agrees (stays (coreOf t k) n v z) u (registerOf t' u k) ≡ true
-  pub flag : (u : ℕ) → u < units → (registerOf t' u k .flag ≡ false) ⊎ (registerOf t' u k .flag ≡ registerOf t u k .flag)
+  pub carries : S.carries (affected t k (staying t k n v z d)) (stays (coreOf t k) n v z) ≡ true
+  pub lends : (j : ℕ) → j < cores → j ≢ k → twoStage (coreOf t j .state) ≡ true → Lends (coreOf t j) (coreOf t k) → unserved z ≡ true
+  pub agrees : (u : ℕ) → u < units → S.agrees (stays (coreOf t k) n v z) u (shown t k d u) ≡ true
 
 pub stayed :
-    (t t' : Table) (k : ℕ) (n : Ticket) (v : UnitNo) (z : State) →
-    Sound t →
-    k < cores →
-    Staying t t' k n v z →
-    Almost t'
-stayed t t' k n v z s small y =
-    column-changed t t' k (stays (coreOf t k) n v z) s small
+    (t : Table) (shaped : Shaped t) (s : Sound t) (k : ℕ) (within : k < t .counts .cores) (n : Ticket) (v : UnitNo) (z : State) (d : Move) →
+    Staying t k n v z d →
+    Almost (affected t k (staying t k n v z d))
+stayed t shaped s k within n v z d y =
+    let small = small t shaped s k within in
+    column-changed t shaped s k within (staying t k n v z d)
     (record {
-      moved = y .moved;
-      within = y .within;
       idleBlank = simp (y .live);
       named = or-right (isIdle z) (y .named);
-      recent = rw (y .counter) (or-right (isIdle z) (simp (y .was) at (s .core k small .recent)));
-      othersRecent = λ j h d. rw (y .counter) (s .core j h .recent);
+      recent = or-right (isIdle z) (simp (y .was) at (s .core k small .recent));
+      othersRecent = λ j h. s .core j h .recent;
       apart = λ j h d p. differ-apart t k j (λ e. d (sym e)) (s .core k small .differ j h) (y .was);
       carries = y .carries;
       lends = λ j h d two l. record { unserved = y .lends j h d two l; first = l .first; own = l .own };
       agrees = y .agrees;
-      flag = y .flag;
     })

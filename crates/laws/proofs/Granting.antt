@@ -11,8 +11,7 @@ use native.Mathlib.Omega.{arith}
 use lib.Dec.{eqb}
 use lib.ListN.{getD}
 use borrow.Author.Tests.{eqb-true, eq-eqb}
-use Rattle.ticket.specs.Kinds.{ticket, grant}
-use Rattle.ticket.specs.Order.{after}
+use Rattle.ticket.specs.Kinds.{grant}
 use Rattle.ticket.specs.declared.kinds.CoreNo.{CoreNo}
 use Rattle.ticket.specs.declared.kinds.Grant.{Grant}
 use Rattle.ticket.specs.declared.kinds.Ticket.{Ticket}
@@ -20,44 +19,39 @@ use Rattle.parts.specs.State.{stands, twoStage, waits}
 use Rattle.parts.specs.Parts.{cores, units, unitNo, standing, idle, registerIn}
 use Rattle.block.specs.Table.{coreOf, unitOf, registerOf, unitCount, withRegister, withCore, withCounter}
 use Rattle.parts.specs.Answer.{packed}
-use Rattle.block.specs.Verdict.{refusal, answered, mayRequest, mayNest, mayPoll, mayInterrupt, mayComeBack, mayRelease}
 use Rattle.block.specs.Settle.{Settling, give, settleAt, settleNext, settle}
-use Rattle.plan.specs.Settle.{flags, inLine, next, won}
+use Rattle.settling.specs.Line.{flags, inLine, next, won}
 use Rattle.block.specs.Sound as S
 use Rattle.block.specs.Sound.{sound}
-use Rattle.block.specs.Parts.{Sound}
 use Rattle.laws.specs.Granting.{listed, Rising, Classes, winner, Due, DueIn, anyInLine}
-use Rattle.block.specs.Steps.{settled, giveUp, requested, nested, interrupted, cameBack, released, awaited, inherited, carrying, granted, polled, onSound}
-use Rattle.block.specs.Touched.{Calm, CalmTable}
+use Rattle.block.specs.Steps.{giveUp, awaited, onSound, answered, refusal, verdict, moves, performed}
+use Rattle.block.proofs.Touched.{Calm, CalmTable}
 use Rattle.parts.specs.declared.kinds.Core.{Core}
 use Rattle.parts.specs.declared.kinds.LockUnit.{LockUnit}
 use Rattle.parts.specs.declared.kinds.Register.{Register}
-use Rattle.parts.specs.declared.kinds.State.{State}
-use Rattle.parts.specs.declared.kinds.State.the-variants.{Idle, Waiting, Holding, WaitingSecond, HoldingBoth, Away}
 use Rattle.block.specs.declared.table.Table.{Table}
-use Rattle.plan.specs.declared.settle.Best.{Best}
-use Rattle.plan.specs.declared.settle.Best.the-variants.{Nobody, Core as Won}
+use Rattle.settling.specs.declared.line.Best.{Best}
+use Rattle.settling.specs.declared.line.Best.the-variants.{Nobody, Won}
 use Rattle.parts.specs.declared.answer.Answer.{Answer}
-use Rattle.parts.specs.declared.answer.Answer.the-variants.{NotYet}
 use Rattle.parts.specs.declared.answer.Grants.the-variants.{Two}
 use Rattle.parts.specs.declared.answer.Step.{Step}
 use Rattle.parts.specs.declared.answer.Step.the-variants.{R, N, P, I, C, L}
 use Rattle.block.specs.declared.stepped.Stepped.{Stepped}
 use Rattle.refusals.specs.declared.verdict.Verdict.{Verdict}
 use Rattle.refusals.specs.declared.verdict.Verdict.the-variants.{Allowed, Refused}
-use Rattle.block.proofs.Access.{Shaped, same-or-not}
+use Rattle.block.proofs.Access.{Shaped}
+use Rattle.parts.proofs.Along.{same-or-not, along, upTo-cong}
 use Rattle.laws.proofs.Almost.{Almost}
-use Rattle.block.proofs.Along.{along, upTo-cong}
+use Rattle.laws.proofs.Agreeing.{line-waits}
 use Rattle.block.proofs.Answering.{request-in, nest-in, poll-in, interrupt-in, come-back-in, release-in}
 use Rattle.parts.proofs.Bools.{clash}
-use Rattle.laws.proofs.Columns.{sound-almost}
 use Rattle.parts.proofs.Folds.{at-some, none-some, count-none}
-use Rattle.laws.proofs.Kept.{Two as Both, names-two, two-stage, backMoves, almost-come-back, interruptMoves, almost-interrupt, releaseMoves, almost-release, nestMoves, almost-nest, requestMoves, almost-request, grantedMoves, almost-granted, blank-out, held-out, almost-carrying}
+use Rattle.laws.proofs.Kept.{Two as Both, names-two, two-stage, moves-almost}
 use Rattle.block.proofs.Parts.{parts}
-use Rattle.block.proofs.Picking.{next-won, nobody-next}
+use Rattle.settling.proofs.Picking.{next-won, nobody-next}
 use Rattle.laws.proofs.Settling.{settle-same}
 use Rattle.block.proofs.Standing.{sound-calm}
-use Rattle.block.proofs.Stepping.{calm-elsewhere, first-unit, second-unit, clears-one, clears-two, one-calm, two-calm, carrying-calm, awaited-second}
+use Rattle.block.proofs.Stepping.{calm-elsewhere, first-unit, second-unit, clears-one, clears-two, one-calm, two-calm, inherited, poll-moves, carrying-calm, awaited-second}
 use Rattle.block.proofs.Touching.{settle-none, settle-one, settle-two, settleAt-unit}
 
 -- Who wins a unit
@@ -237,57 +231,7 @@ module _ (t : Table) (u : ℕ) (h : u < units) where
     λ e. settled-in-line .1 (e .0, free-line (unitOf t u) (e .0) ∙ e .1),
   )
 
--- Whoever is in line waits there: a register in line is neither blank nor that of a holder
-
-line-waits :
-    (c : Core) (u : ℕ) (r : Register) → S.agrees c u r ≡ true → inLine r ≡ true → (waits (c .state) ≡ true) × (awaited c ≡ u)
-line-waits c u r agrees line = go (c .state) refl
-  where
-    out : {A : Type 0} → S.isBlank r ≡ true → A
-    out e = absurd (blank-out r e line)
-
-    held : {A : Type 0} (n : Ticket) → S.shows r n true ≡ true → A
-    held n e = absurd (held-out r n e line)
-
-    Waits : Type 0
-    Waits = (waits (c .state) ≡ true) × (awaited c ≡ u)
-
-    at-first :
-        (b : Bool) →
-        eqb u (c .first .0) ≡ b →
-        c .state ≡ Waiting →
-        cond b (S.shows r (c .own) false) (S.isBlank r) ≡ true →
-        Waits
-    at-first true q e a = (ap waits e, simp e (sym (eqb-true u (c .first .0) q)))
-    at-first false q e a = out a
-
-    holding : (b : Bool) → cond b (S.shows r (c .own) true) (S.isBlank r) ≡ true → Waits
-    holding true a = held (c .own) a
-    holding false a = out a
-
-    at-second :
-        (b d : Bool) →
-        eqb u (c .second .0) ≡ d →
-        c .state ≡ WaitingSecond →
-        cond b (S.shows r (c .own) true) (cond d (S.shows r (c .carried) false) (S.isBlank r)) ≡ true →
-        Waits
-    at-second true d q e a = held (c .own) a
-    at-second false true q e a = (ap waits e, simp e (sym (eqb-true u (c .second .0) q)))
-    at-second false false q e a = out a
-
-    holding-both :
-        (b d : Bool) → cond b (S.shows r (c .own) true) (cond d (S.shows r (c .carried) true) (S.isBlank r)) ≡ true → Waits
-    holding-both true d a = held (c .own) a
-    holding-both false true a = held (c .carried) a
-    holding-both false false a = out a
-
-    go : (z : State) → c .state ≡ z → Waits
-    go Idle e = out (simp e at agrees)
-    go Waiting e = at-first (eqb u (c .first .0)) refl e (simp e at agrees)
-    go Holding e = holding (eqb u (c .first .0)) (simp e at agrees)
-    go WaitingSecond e = at-second (eqb u (c .first .0)) (eqb u (c .second .0)) refl e (simp e at agrees)
-    go HoldingBoth e = holding-both (eqb u (c .first .0)) (eqb u (c .second .0)) (simp e at agrees)
-    go Away e = out (simp e at agrees)
+-- Whoever is in line waits there
 
 pub in-line-awaits :
     (t : Table) (u k : ℕ) →
@@ -361,57 +305,38 @@ module _ (t : Table) where
 
 -- The steps
 
--- what a step is allowed by, and its table before settling
-abbrev pub verdict : Table → Step → Verdict
-verdict t (R k u) = mayRequest t k u
-verdict t (N k u) = mayNest t k u
-verdict t (P k) = mayPoll t k
-verdict t (I k) = mayInterrupt t k
-verdict t (C k) = mayComeBack t k
-verdict t (L k) = mayRelease t k
+-- an allowed step does its work, and a refused one grants nothing
+module _ (t : Table) (step : Step) where
+  pub accepted : verdict t step ≡ Allowed → onSound t step ≡ performed t step
+  unfolding onSound
+  accepted may = ap (λ (v : Verdict). answered t v (performed t step)) may
 
-abbrev pub pollMoves : Table → ℕ → Table
-pollMoves t k =
-    let c = coreOf t k in
-    cond (registerOf t (awaited c) k .flag) (grantedMoves t k) (cond (twoStage (c .state)) (carrying t k (inherited t c)) t)
+  pub refused : (a : Answer) → verdict t step ≡ Refused a → onSound t step ≡ refusal t a
+  unfolding onSound
+  refused a e = ap (λ (v : Verdict). answered t v (performed t step)) e
 
-abbrev pub moves : Table → Step → Table
-moves t (R k u) = requestMoves t (k .0) u
-moves t (N k u) = nestMoves t (k .0) u
-moves t (P k) = pollMoves t (k .0)
-moves t (I k) = interruptMoves t (k .0)
-moves t (C k) = backMoves t (k .0)
-moves t (L k) = releaseMoves t (k .0)
-
--- a step's end, from the table m before settling
-pub record Ends (t m : Table) (x : Stepped) : Type 0 where
-  pub table : x .table ≡ settle m .table
-  pub grants : x .grants ≡ packed (settle m .grants)
-  pub almost : Almost m
-  brief : Brief t (settle m .grants)
-
-module _ (t : Table) (shaped : Shaped t) (s : sound t ≡ true) where
-  p : Sound t
-  p = parts t s
+module _ (t : Table) (s : sound t ≡ true) where
+  calm : CalmTable t
+  calm = sound-calm t (parts t s)
 
   -- a core that enters a unit touches that unit
-  module _ (t' : Table) (u k : ℕ) (n : Ticket) (c : Core) (calm : CalmTable t') (h : u < units) where
+  module _ (u k : ℕ) (n m : Ticket) (c : Core) (h : u < units) where
     abbrev entering : Table
-    entering = withCore (withRegister t' u k (standing n)) k c
+    entering = withCounter (withCore (withRegister t u k (standing n)) k c) m
 
     pub enter-grants : settle entering .grants ≡ won u (winner (unitOf entering u))
-    enter-grants = settle-at-one entering u h (calm-elsewhere t' u k (standing n) calm)
+    enter-grants = settle-at-one entering u h (calm-elsewhere t u k (standing n) calm)
 
     enter-brief : Brief t (settle entering .grants)
     enter-brief = subst (Brief t) (sym enter-grants) (brief-one t u (winner (unitOf entering u)))
 
   -- a core that gives up every register touches the one or two units where it stood
-  module _ (k : ℕ) (c : Core) (i : (k < cores) × (stands (coreOf t k .state) ≡ true)) where
+  module _ (k : ℕ) (m : Ticket) (c : Core) (i : (k < cores) × (stands (coreOf t k .state) ≡ true)) where
     abbrev was : Core
     was = coreOf t k
 
     abbrev freeing : Table
-    freeing = withCore (giveUp t k) k c
+    freeing = withCounter (withCore (giveUp t k) k c) m
 
     pub free-grants-one : twoStage (was .state) ≡ false → settle freeing .grants ≡ won (was .first .0) (winner (unitOf freeing (was .first .0)))
     free-grants-one one =
@@ -434,124 +359,43 @@ module _ (t : Table) (shaped : Shaped t) (s : sound t ≡ true) where
       where
         go : (b : Bool) → twoStage (was .state) ≡ b → Brief t (settle freeing .grants)
         go true two =
-            let live = two-stage (was .state) two .live in
+            let named = parts t s .core k (i .0) .named in
             subst (Brief t) (sym (free-grants-two two))
-            (brief-two t was (names-two t was (simp (live, two) at (p .core k (i .0) .named)))
+            (brief-two t was (names-two t was (simp (two-stage (was .state) two .live, two) at named))
             (winner (unitOf freeing (was .first .0)))
             (winner (unitOf freeing (was .second .0))))
         go false one =
             subst (Brief t) (sym (free-grants-one one)) (brief-one t (was .first .0) (winner (unitOf freeing (was .first .0))))
 
   -- a poll touches no unit that settles
-  module _ (k : CoreNo) (may : mayPoll t k ≡ Allowed) where
-    abbrev c : Core
-    c = coreOf t (k .0)
+  module _ (k : CoreNo) (may : verdict t (P k) ≡ Allowed) where
+    poll-calm : CalmTable (moves t (P k))
+    poll-calm =
+        poll-moves t k CalmTable (λ f. calm)
+        (λ f two.
+        let i = poll-in t k s may in
+        carrying-calm t (k .0) (i .0) s (i .1) two (awaited-second t (k .0) two f) (inherited t (coreOf t (k .0))))
+        calm
 
-    poll-calm : CalmTable (pollMoves t (k .0))
-    poll-calm = go (registerOf t (awaited c) (k .0) .flag) refl (twoStage (c .state)) refl
-      where
-        go :
-            (b : Bool) →
-            registerOf t (awaited c) (k .0) .flag ≡ b →
-            (two : Bool) →
-            twoStage (c .state) ≡ two →
-            CalmTable (cond b (grantedMoves t (k .0)) (cond two (carrying t (k .0) (inherited t c)) t))
-        go true f two e = sound-calm t p
-        go false f true e =
-            let i = poll-in t k s may in
-            carrying-calm t (k .0) (i .0) s (i .1) e (awaited-second t (k .0) e f) (inherited t c)
-        go false f false e = sound-calm t p
+    pub poll-grants : settle (moves t (P k)) .grants ≡ []
+    poll-grants = ap (λ (z : Settling). z .grants) (settle-none (moves t (P k)) poll-calm)
 
-    pub poll-grants : settle (pollMoves t (k .0)) .grants ≡ []
-    poll-grants = ap (λ (z : Settling). z .grants) (settle-none (pollMoves t (k .0)) poll-calm)
-
-    poll-ends : Ends t (pollMoves t (k .0)) (polled t (k .0))
-    poll-ends =
-        go (registerOf t (awaited c) (k .0) .flag) refl (twoStage (c .state)) refl
-        (subst (Brief t) (sym poll-grants) (brief-none t))
-      where
-        go :
-            (b : Bool) →
-            registerOf t (awaited c) (k .0) .flag ≡ b →
-            (two : Bool) →
-            twoStage (c .state) ≡ two →
-            Brief t (settle (cond b (grantedMoves t (k .0)) (cond two (carrying t (k .0) (inherited t c)) t)) .grants) →
-            Ends t
-            (cond b (grantedMoves t (k .0)) (cond two (carrying t (k .0) (inherited t c)) t))
-            (cond b (granted t (k .0))
-            (cond two (settled (carrying t (k .0) (inherited t c)) NotYet (inherited t c)) (settled t NotYet (c .carried))))
-        go true f two e brief = record { table = refl; grants = refl; almost = almost-granted t k shaped p may f; brief = brief }
-        go false f true e brief =
-            record { table = refl; grants = refl; almost = almost-carrying t k shaped p may e next-won; brief = brief }
-        go false f false e brief = record { table = refl; grants = refl; almost = sound-almost t p; brief = brief }
-
-  allowed : {m : Table} (v : Verdict) (d : Stepped) → v ≡ Allowed → Ends t m d → Ends t m (answered t v d)
-  allowed {m} v d e x = subst (λ (w : Verdict). Ends t m (answered t w d)) (sym e) x
-
-  pub ends : (step : Step) → verdict t step ≡ Allowed → Ends t (moves t step) (onSound t step)
-  unfolding onSound
-  ends (R k u) may =
-      allowed (mayRequest t k u) (requested t (k .0) u) may
-      (record {
-        table = refl;
-        grants = refl;
-        almost = almost-request t k u shaped p may;
-        brief =
-            enter-brief (withCounter t (ticket (after (t .counter .0)))) (u .0) (k .0) (t .counter) _ (sound-calm t p)
-            (request-in t k s u may .1);
-      })
-  ends (N k u) may =
-      allowed (mayNest t k u) (nested t (k .0) u) may
-      (record {
-        table = refl;
-        grants = refl;
-        almost = almost-nest t k u shaped p may;
-        brief = enter-brief t (u .0) (k .0) _ _ (sound-calm t p) (nest-in t k s u may .1);
-      })
-  ends (P k) may = allowed (mayPoll t k) (polled t (k .0)) may (poll-ends k may)
-  ends (I k) may =
-      allowed (mayInterrupt t k) (interrupted t (k .0)) may
-      (record {
-        table = refl;
-        grants = refl;
-        almost = almost-interrupt t k shaped p may;
-        brief = free-brief (k .0) _ (interrupt-in t k s may);
-      })
-  ends (C k) may =
-      allowed (mayComeBack t k) (cameBack t (k .0)) may
-      (record {
-        table = refl;
-        grants = refl;
-        almost = almost-come-back t k shaped p may;
-        brief = enter-brief t _ (k .0) _ _ (sound-calm t p) (come-back-in t k s may .1);
-      })
-  ends (L k) may =
-      allowed (mayRelease t k) (released t (k .0)) may
-      (record {
-        table = refl;
-        grants = refl;
-        almost = almost-release t k shaped p may;
-        brief = free-brief (k .0) _ (release-in t k s may);
-      })
-
--- a refused step grants nothing
-pub refused : (t : Table) (step : Step) (a : Answer) → verdict t step ≡ Refused a → onSound t step ≡ refusal t a
-unfolding onSound
-refused t (R k u) a e = ap (λ (v : Verdict). answered t v (requested t (k .0) u)) e
-refused t (N k u) a e = ap (λ (v : Verdict). answered t v (nested t (k .0) u)) e
-refused t (P k) a e = ap (λ (v : Verdict). answered t v (polled t (k .0))) e
-refused t (I k) a e = ap (λ (v : Verdict). answered t v (interrupted t (k .0))) e
-refused t (C k) a e = ap (λ (v : Verdict). answered t v (cameBack t (k .0))) e
-refused t (L k) a e = ap (λ (v : Verdict). answered t v (released t (k .0))) e
+  brief : (step : Step) → verdict t step ≡ Allowed → Brief t (settle (moves t step) .grants)
+  brief (R k u) may = enter-brief (u .0) (k .0) _ _ _ (request-in t k s u may .1)
+  brief (N k u) may = enter-brief (u .0) (k .0) _ _ _ (nest-in t k s u may .1)
+  brief (P k) may = subst (Brief t) (sym (poll-grants k may)) (brief-none t)
+  brief (I k) may = free-brief (k .0) _ _ (interrupt-in t k s may)
+  brief (C k) may = enter-brief (coreOf t (k .0) .first .0) (k .0) _ _ _ (come-back-in t k s may .1)
+  brief (L k) may = free-brief (k .0) _ _ (release-in t k s may)
 
 module _ (t : Table) (shaped : Shaped t) (s : sound t ≡ true) (step : Step) where
   -- an accepted step's grants are all of those that settling gives
   module _ (may : verdict t step ≡ Allowed) where
     pub settle-few : listed (packed (settle (moves t step) .grants)) ≡ settle (moves t step) .grants
-    settle-few = ends t shaped s step may .brief .whole
+    settle-few = brief t s step may .whole
 
     pub grants-listed : listed (onSound t step .grants) ≡ settle (moves t step) .grants
-    grants-listed = ap listed (ends t shaped s step may .grants) ∙ settle-few
+    grants-listed = ap (λ (x : Stepped). listed (x .grants)) (accepted t step may) ∙ settle-few
 
     -- so they are those due before settling
     pub grants-exactly :
@@ -562,10 +406,10 @@ module _ (t : Table) (shaped : Shaped t) (s : sound t ≡ true) (step : Step) wh
 
   -- by what the step is judged
   judged : {A : Type 0} → (verdict t step ≡ Allowed → A) → ((a : Answer) → verdict t step ≡ Refused a → A) → A
-  judged {A} accepted turned = go (verdict t step) refl
+  judged {A} allowed turned = go (verdict t step) refl
     where
       go : (v : Verdict) → verdict t step ≡ v → A
-      go Allowed e = accepted e
+      go Allowed e = allowed e
       go (Refused a) e = turned a e
 
   pub granted-waiting :
@@ -576,8 +420,8 @@ module _ (t : Table) (shaped : Shaped t) (s : sound t ≡ true) (step : Step) wh
   granted-waiting g m =
       judged
       (λ may.
-      let e = ends t shaped s step may in
-      rw (e .table) (settled-waiting (moves t step) (e .almost) g (rw (grants-listed may) at m)))
+      rw (accepted t step may)
+      (settled-waiting (moves t step) (moves-almost t shaped (parts t s) step may) g (rw (grants-listed may) at m)))
       (λ a e. absurd (List·Memᴰ·not-nil (rw (refused t step a e) at m)))
 
   pub grants-rising : Rising (listed (onSound t step .grants))
@@ -587,7 +431,7 @@ module _ (t : Table) (shaped : Shaped t) (s : sound t ≡ true) (step : Step) wh
   module _ (g h : Grant) (two : onSound t step .grants ≡ Two g h) where
     pub two-classes : Classes t g h
     two-classes =
-        judged (λ may. let e = ends t shaped s step may in e .brief .classes g h (sym (e .grants) ∙ two))
+        judged (λ may. brief t s step may .classes g h (rw (accepted t step may) at two))
         (λ a e. absurd (let n = ap (λ (x : Stepped). x .grants) (refused t step a e) in let z : _≡_ {A = ℕ} 0 1 = cc in omega arith))
 
     pub rising : g .unit .0 < h .unit .0

@@ -4,31 +4,28 @@ use Prim.Native.Nat.{ℕ, _<_}
 use mathlib.Core.Bool.{Bool, true, false, cond}
 use mathlib.Core.Path.{_≡_, refl, sym, _∙_, ap, ap₂}
 use lib.Dec.{eqb, ltb}
-use lib.ListN.{length, replicate, length-replicate, getD-replicate}
+use lib.ListN.{length, length-replicate, getD-replicate}
 use borrow.Author.Tests.{eq-eqb}
 use Rattle.ticket.specs.Kinds.{ticket}
-use Rattle.ticket.specs.declared.kinds.CoreNo.{CoreNo}
 use Rattle.ticket.specs.declared.kinds.Ticket.{Ticket}
 use Rattle.parts.specs.Fold.{one}
-use Rattle.parts.specs.State.{isIdle, twoStage}
-use Rattle.parts.specs.Parts.{cores, units, blank, idle, noUnit, registerIn}
+use Rattle.parts.specs.State.{isIdle}
+use Rattle.parts.specs.Parts.{cores, units, blank, idle, absentUnit, emptyUnit, registerIn}
 use Rattle.block.specs.Table.{coreOf, unitOf, registerOf}
 use Rattle.parts.specs.Range.{inRange}
 use Rattle.building.specs.Build.{fresh, build}
-use Rattle.plan.specs.Settle.{flags}
+use Rattle.settling.specs.Line.{flags}
 use Rattle.block.specs.Settle.{settle}
 use Rattle.block.specs.Sound as S
 use Rattle.block.specs.Sound.{sound}
 use Rattle.block.specs.Parts.{CoreSound, Sound}
-use Rattle.block.specs.Verdict.{answered, mayRequest, mayNest, mayPoll, mayInterrupt, mayComeBack, mayRelease}
-use Rattle.block.specs.Steps.{requested, nested, interrupted, cameBack, released, awaited, granted, notYet, polled, onSound}
+use Rattle.block.specs.Steps.{verdict, moves, performed, onSound, answered}
 use Rattle.parts.specs.declared.kinds.Register.{Register}
 use Rattle.parts.specs.declared.kinds.LockUnit.{LockUnit}
 use Rattle.parts.specs.declared.kinds.Core.{Core}
 use Rattle.parts.specs.declared.kinds.Counts.{Counts}
 use Rattle.block.specs.declared.table.Table.{Table}
 use Rattle.parts.specs.declared.answer.Step.{Step}
-use Rattle.parts.specs.declared.answer.Step.the-variants.{R, N, P, I, C, L}
 use Rattle.block.specs.declared.stepped.Stepped.{Stepped}
 use Rattle.refusals.specs.declared.verdict.Verdict.{Verdict}
 use Rattle.refusals.specs.declared.verdict.Verdict.the-variants.{Allowed, Refused}
@@ -39,10 +36,8 @@ use Rattle.parts.proofs.Folds.{none-some, none-count}
 use Rattle.block.proofs.Access.{Shaped}
 use Rattle.laws.proofs.Almost.{Almost}
 use Rattle.block.proofs.Parts.{parts, whole}
-use Rattle.block.proofs.Picking.{next-won}
 use Rattle.laws.proofs.Settling.{settle-shaped, settle-sound}
-use Rattle.laws.proofs.Columns.{sound-almost}
-use Rattle.laws.proofs.Kept.{almost-request, shaped-request, almost-nest, shaped-nest, almost-interrupt, shaped-interrupt, almost-come-back, shaped-come-back, almost-release, shaped-release, almost-granted, shaped-granted, almost-carrying, shaped-carrying}
+use Rattle.laws.proofs.Kept.{moves-shaped, moves-almost}
 
 -- a sound table with its arrays' lengths
 pub record Good (t : Table) : Type 0 where
@@ -52,42 +47,17 @@ pub record Good (t : Table) : Type 0 where
 settled : (m : Table) → Shaped m → Almost m → Good (settle m .table)
 settled m h a = record { shaped = settle-shaped m h; sound = settle-sound m h a }
 
-either-way : (b : Bool) (x y : Stepped) → (b ≡ true → Good (x .table)) → (b ≡ false → Good (y .table)) → Good (cond b x y .table)
-either-way true x y p q = p refl
-either-way false x y p q = q refl
-
 module _ (t : Table) (g : Good t) where
   -- allowed: what the work leaves; refused: the same table
   judged : (v : Verdict) (d : Stepped) → (v ≡ Allowed → Good (d .table)) → Good (answered t v d .table)
   judged Allowed d done = done refl
   judged (Refused a) d done = g
 
-  polls : (k : CoreNo) → mayPoll t k ≡ Allowed → Good (polled t (k .0) .table)
-  polls k may =
-      either-way (registerOf t (awaited (coreOf t (k .0))) (k .0) .flag) (granted t (k .0)) (notYet t (k .0))
-      (λ set. settled _ (shaped-granted t k (g .shaped) (g .sound) may) (almost-granted t k (g .shaped) (g .sound) may set))
-      (λ clear. either-way (twoStage (coreOf t (k .0) .state)) _ _
-      (λ two. settled _ (shaped-carrying t k (g .shaped) (g .sound) may two _) (almost-carrying t k (g .shaped) (g .sound) may two next-won))
-      (λ one. settled t (g .shaped) (sound-almost t (g .sound))))
-
   pub steps-keep : (s : Step) → Good (onSound t s .table)
   unfolding onSound
-  steps-keep (R k u) =
-      judged (mayRequest t k u) (requested t (k .0) u)
-      (λ may. settled _ (shaped-request t k u (g .shaped) (g .sound) may) (almost-request t k u (g .shaped) (g .sound) may))
-  steps-keep (N k u) =
-      judged (mayNest t k u) (nested t (k .0) u)
-      (λ may. settled _ (shaped-nest t k u (g .shaped) (g .sound) may) (almost-nest t k u (g .shaped) (g .sound) may))
-  steps-keep (P k) = judged (mayPoll t k) (polled t (k .0)) (polls k)
-  steps-keep (I k) =
-      judged (mayInterrupt t k) (interrupted t (k .0))
-      (λ may. settled _ (shaped-interrupt t k (g .shaped) (g .sound) may) (almost-interrupt t k (g .shaped) (g .sound) may))
-  steps-keep (C k) =
-      judged (mayComeBack t k) (cameBack t (k .0))
-      (λ may. settled _ (shaped-come-back t k (g .shaped) (g .sound) may) (almost-come-back t k (g .shaped) (g .sound) may))
-  steps-keep (L k) =
-      judged (mayRelease t k) (released t (k .0))
-      (λ may. settled _ (shaped-release t k (g .shaped) (g .sound) may) (almost-release t k (g .shaped) (g .sound) may))
+  steps-keep s =
+      judged (verdict t s) (performed t s)
+      (λ may. settled (moves t s) (moves-shaped t (g .shaped) (g .sound) s may) (moves-almost t (g .shaped) (g .sound) s may))
 
 -- the same of the computed test
 pub step-sound : (t : Table) (s : Step) → Shaped t → sound t ≡ true → sound (onSound t s .table) ≡ true
@@ -118,11 +88,8 @@ blank-unit x all =
     ap one (sym (none-some (λ (k : ℕ). registerIn x k .valid) cores (λ k h. ap (λ (r : Register). r .valid) (all k h)))))
 
 module _ (c : Counts) (n : Ticket) where
-  abbrev emptyUnit : LockUnit
-  emptyUnit = record { registers = replicate cores blank }
-
   unit-fresh : (u : ℕ) → u < units → unitOf (fresh c n) u ≡ emptyUnit
-  unit-fresh u h = getD-replicate units u emptyUnit noUnit h
+  unit-fresh u h = getD-replicate units u emptyUnit absentUnit h
 
   pub core-fresh : (k : ℕ) → k < cores → coreOf (fresh c n) k ≡ idle
   core-fresh k h = getD-replicate cores k idle idle h

@@ -1,67 +1,53 @@
 -- Each allowed step, before settling, leaves a table that is sound but for flags to be set. It changes one column: what the core
 -- shows at its units agrees with its new state, and whoever carries its ticket still may.
-use Prim.Native.Nat.{ℕ, zero, suc, _+_, _<_, _≤_}
-use mathlib.Core.Bool.{Bool, true, false, cond, _&&_, _||_, not}
+use Prim.Native.Nat.{ℕ, _+_, _<_, _≤_}
+use mathlib.Core.Bool.{Bool, true, false, cond, _&&_, _||_}
 use mathlib.Core.Logic.{_⊎_, inl, inr, ⊎-elim, _≢_}
-use mathlib.Core.Path.{_≡_, refl, sym, _∙_, ap}
-use mathlib.Core.List.{List}
-use native.Mathlib.Nat.{not-suc-le-zero}
+use mathlib.Core.Path.{_≡_, refl, sym, ap}
 use native.Mathlib.Omega.{arith}
-use lib.ListN.{getD}
 use lib.Dec.{eqb, ltb, leb}
 use borrow.Author.Tests.{eqb-true, eq-eqb, ne-eqb, ltb-true, lt-ltb, leb-true, leb-false, le-leb}
-use Rattle.ticket.specs.Kinds.{ticket}
 use Rattle.ticket.specs.Order.{half, behind, topBit, older, after, Window}
 use Rattle.ticket.specs.declared.kinds.CoreNo.{CoreNo}
 use Rattle.ticket.specs.declared.kinds.Ticket.{Ticket}
 use Rattle.ticket.specs.declared.kinds.UnitNo.{UnitNo}
-use Rattle.parts.specs.Fold.{upTo, some}
+use Rattle.parts.specs.Answer.{whose}
+use Rattle.parts.specs.Fold.{some}
 use Rattle.parts.specs.State.{isIdle, stands, holdsFirst, twoStage, unserved}
-use Rattle.parts.specs.Parts.{cores, units, unitNo, blank, standing, idle, core, registerIn}
-use Rattle.block.specs.Table.{coreOf, unitOf, registerOf, unitCount, withRegister, withCore, withCounter}
-use Rattle.parts.specs.Range.{inRange, perClass}
-use Rattle.plan.specs.Settle.{inLine, next}
-use Rattle.block.specs.Sound as S
-use Rattle.block.specs.Parts.{Sound}
-use Rattle.block.specs.Steps.{clear, giveUp, awaited, inherited, carrying}
-use Rattle.plan.specs.Poll.{served, heir}
-use Rattle.block.specs.Verdict.{old, mayRequest, mayNest, mayPoll, mayComeBack, mayInterrupt, mayRelease}
+use Rattle.parts.specs.Parts.{cores, units, unitNo, standing, core}
+use Rattle.parts.specs.declared.answer.Step.{Step}
+use Rattle.parts.specs.declared.answer.Step.the-variants.{R, N, P, I, C, L}
 use Rattle.parts.specs.declared.kinds.Core.{Core}
-use Rattle.parts.specs.declared.kinds.Counts.{Counts}
 use Rattle.parts.specs.declared.kinds.Register.{Register}
 use Rattle.parts.specs.declared.kinds.State.{State}
 use Rattle.parts.specs.declared.kinds.State.the-variants.{Idle, Waiting, Holding, WaitingSecond, HoldingBoth, Away}
-use Rattle.parts.specs.declared.kinds.LockUnit.{LockUnit}
-use Rattle.block.specs.declared.table.Table.{Table}
-use Rattle.plan.specs.declared.settle.Best.{Best}
-use Rattle.plan.specs.declared.settle.Best.the-variants.{Nobody, Core as Won}
+use Rattle.settling.specs.Line.{inLine, next}
+use Rattle.settling.specs.declared.line.Best.{Best}
+use Rattle.settling.specs.declared.line.Best.the-variants.{Nobody, Won}
+use Rattle.refusals.specs.Judge.{old, stretched}
 use Rattle.refusals.specs.declared.verdict.Verdict.the-variants.{Allowed}
+use Rattle.effects.specs.Effect.{request, release, heir}
+use Rattle.effects.specs.declared.kinds.Move.the-variants.{Stay, Enter, Carry, GiveUp}
+use Rattle.effects.specs.declared.kinds.Effect.{Effect}
+use Rattle.block.specs.Table.{coreOf, unitOf, registerOf, unitCount}
+use Rattle.block.specs.Sound as S
+use Rattle.block.specs.Parts.{Sound}
+use Rattle.block.specs.Steps.{verdict, effectOn, affected, moves}
+use Rattle.block.specs.declared.table.Table.{Table}
 use Rattle.ticket.proofs.Laws.{transitive}
 use Rattle.ticket.proofs.Circle.{behind-leads, behind-only, behind-self}
-use Rattle.parts.proofs.Bools.{not-true-false, and-left, and-right, and-both, or-left, or-right, or-cases, clash}
+use Rattle.parts.proofs.Along.{same-or-not}
+use Rattle.parts.proofs.Bools.{and-left, and-right, and-both, or-left, or-right, or-cases, clash}
 use Rattle.parts.proofs.Folds.{some-at, at-some, some-none, count-unique}
-use Rattle.block.proofs.Access.{Shaped, same-or-not, core-same, core-other, register-same, register-core, register-unit, shaped-register, shaped-core, shaped-counter}
+use Rattle.settling.proofs.Picking.{next-won}
+use Rattle.block.proofs.Access.{Shaped}
+use Rattle.block.proofs.Allows.{may-request, may-nest, may-poll, may-come-back, may-interrupt, may-release}
+use Rattle.block.proofs.Standing.{units-few}
+use Rattle.block.proofs.Stepping.{holding, carrying, inherited, poll-moves}
 use Rattle.laws.proofs.Almost.{Almost}
-use Rattle.laws.proofs.Columns.{lent, lending, lenders-others, sound-few, sound-almost, Moved, column-changed, stays, stayed}
-use Rattle.block.proofs.Allows.{Requesting, Nesting, may-request, may-nest, may-poll, may-come-back, may-interrupt, may-release}
-
--- counts in range keep cores and units within the arrays
-record Fits (c : Counts) : Type 0 where
-  cores : c .cores ≤ cores
-  units : c .first + c .second ≤ units
-
-fits : (c : Counts) → inRange c ≡ true → Fits c
-fits c e =
-    let p = leb 1 (c .cores) in
-    let q = p && leb (c .cores) cores in
-    let r = q && leb 1 (c .first) in
-    let s = r && leb (c .first) perClass in
-    let e4 = and-left s (leb (c .second) perClass) e in
-    let e2 = and-left q _ (and-left r _ e4) in
-    let a = leb-true (c .cores) cores (and-right p (leb (c .cores) cores) e2) in
-    let f = leb-true (c .first) perClass (and-right r (leb (c .first) perClass) e4) in
-    let g = leb-true (c .second) perClass (and-right s (leb (c .second) perClass) e) in
-    record { cores = a; units = omega arith }
+use Rattle.laws.proofs.Agreeing.{shows, in-line-at}
+use Rattle.laws.proofs.Moving.{Moved, entered, affected-shaped, affected-moved}
+use Rattle.laws.proofs.Columns.{lent, lending, lenders-others, sound-few, sound-almost, small, column-changed, stays, staying, stayed}
 
 -- the units that a core names
 module _ (t : Table) (c : Core) where
@@ -88,12 +74,9 @@ module _ (t : Table) (c : Core) where
   names-first true e = let w = names-two e in omega arith
   names-first false e = ltb-true (c .first .0) (unitCount t) e
 
--- a core of a sound table, and a live one's first unit
-core-small : (t : Table) → Sound t → (k : ℕ) → k < t .counts .cores → k < cores
-core-small t s k h = omega (arith, fits (t .counts) (s .counts))
-
+-- a unit of the table, and a live core's first unit
 unit-small : (t : Table) → Sound t → (u : ℕ) → u < unitCount t → u < units
-unit-small t s u h = omega (arith, fits (t .counts) (s .counts))
+unit-small t s u h = omega (arith, units-few (t .counts) (s .counts))
 
 first-there : (t : Table) → Sound t → (k : ℕ) → k < cores → isIdle (coreOf t k .state) ≡ false → coreOf t k .first .0 < unitCount t
 first-there t s k h live = names-first t (coreOf t k) (twoStage (coreOf t k .state)) (simp live at (s .core k h .named))
@@ -102,7 +85,7 @@ first-there t s k h live = names-first t (coreOf t k) (twoStage (coreOf t k .sta
 pub first-place : (t : Table) → Almost t → (k : ℕ) → k < cores → isIdle (coreOf t k .state) ≡ false → coreOf t k .first .0 < units
 first-place t a k h live =
     let low = names-first t (coreOf t k) (twoStage (coreOf t k .state)) (simp live at (a .core k h .named)) in
-    omega (arith, fits (t .counts) (a .counts))
+    omega (arith, units-few (t .counts) (a .counts))
 
 -- a live core's own ticket lies in the window behind the counter
 module _ (t : Table) (c : Core) where
@@ -131,344 +114,44 @@ live-window :
     Window (t .counter .0) (coreOf t j .own .0)
 live-window t s j h live = recent-window t (coreOf t j) live (s .core j h .recent)
 
--- core k, which becomes c, enters unit v
-module _ (t : Table) (shaped : Shaped t) (k v : ℕ) (n : Ticket) (c : Core) (small : k < cores) (place : v < units) where
-  abbrev enters : Table
-  enters = withCore (withRegister t v k (standing n)) k c
+-- a live core is one of the table's
+pub live-within : (t : Table) → Sound t → (j : ℕ) → j < cores → isIdle (coreOf t j .state) ≡ false → j < t .counts .cores
+live-within t s j h live =
+    ⊎-elim (ltb-true j (t .counts .cores)) (λ e. absurd (clash e live)) (or-cases (ltb j (t .counts .cores)) _ (s .core j h .within))
 
-  shaped-enters : Shaped enters
-  shaped-enters = shaped-core (withRegister t v k (standing n)) k c (shaped-register t v k (standing n) shaped place)
+-- where 15 is not due, no live ticket lies half a circle behind
+pub live-close :
+    (t : Table) →
+    Sound t →
+    stretched (t .counter) (t .cores) (t .counts .cores) ≡ false →
+    (j : ℕ) →
+    j < cores →
+    isIdle (coreOf t j .state) ≡ false →
+    behind (t .counter .0) (coreOf t j .own .0) < half
+unfolding topBit
+live-close t s close j h live =
+    leb-false half _ (simp live at (some-none (λ (i : ℕ). old (t .counter) (coreOf t i)) (t .counts .cores) close j (live-within t s j h live)))
 
-  enters-moved : Moved t enters k c
-  enters-moved =
-      record {
-        counts = refl;
-        becomes = core-same (withRegister t v k (standing n)) k c (shaped-register t v k (standing n) shaped place) small;
-        others = λ j d. core-other (withRegister t v k (standing n)) k j c d;
-        registers = λ u h j d. go u j d (same-or-not u v);
-      }
-    where
-      go : (u j : ℕ) → j ≢ k → (u ≡ v) ⊎ (u ≢ v) → registerOf enters u j ≡ registerOf t u j
-      go u j d (inl e) = rw e (register-core t v k (standing n) j shaped place d)
-      go u j d (inr d') = register-unit t v k (standing n) u j d'
-
-  enters-agrees :
-      S.agrees c v (standing n) ≡ true →
-      ((u : ℕ) → u < units → u ≢ v → S.agrees c u (registerOf t u k) ≡ true) →
-      (u : ℕ) →
-      u < units →
-      S.agrees c u (registerOf enters u k) ≡ true
-  enters-agrees here there u h = go (same-or-not u v)
-    where
-      go : (u ≡ v) ⊎ (u ≢ v) → S.agrees c u (registerOf enters u k) ≡ true
-      go (inl e) = rw (e, register-same t v k (standing n) shaped place small) here
-      go (inr d) = rw (register-unit t v k (standing n) u k d) (there u h d)
-
-  enters-flag : (u : ℕ) → u < units → (registerOf enters u k .flag ≡ false) ⊎ (registerOf enters u k .flag ≡ registerOf t u k .flag)
-  enters-flag u h = go (same-or-not u v)
-    where
-      go : (u ≡ v) ⊎ (u ≢ v) → (registerOf enters u k .flag ≡ false) ⊎ (registerOf enters u k .flag ≡ registerOf t u k .flag)
-      go (inl e) = inl (rw (e, register-same t v k (standing n) shaped place small) refl)
-      go (inr d) = inr (ap (λ (r : Register). r .flag) (register-unit t v k (standing n) u k d))
-
--- core k gives up its registers, one unit after the other
-record Cleared (t t' : Table) (k n : ℕ) : Type 0 where
-  cores : t' .cores ≡ t .cores
-  counts : t' .counts ≡ t .counts
-  counter : t' .counter ≡ t .counter
-  shaped : Shaped t'
-  gone : (u : ℕ) → u < n → registerOf t' u k ≡ blank
-  others : (u : ℕ) → u < units → (j : ℕ) → j ≢ k → registerOf t' u j ≡ registerOf t u j
-
-clear-next : (t t' : Table) (k n : ℕ) → k < cores → n < units → Cleared t t' k n → Cleared t (clear k n t') k (suc n)
-clear-next t t' k n small place c =
-    record {
-      cores = c .cores;
-      counts = c .counts;
-      counter = c .counter;
-      shaped = shaped-register t' n k blank (c .shaped) place;
-      gone = λ u h. gone u h (same-or-not u n);
-      others = λ u h j d. others u h j d (same-or-not u n);
-    }
-  where
-    gone : (u : ℕ) → u < suc n → (u ≡ n) ⊎ (u ≢ n) → registerOf (clear k n t') u k ≡ blank
-    gone u h (inl e) = rw e (register-same t' n k blank (c .shaped) place small)
-    gone u h (inr d) = register-unit t' n k blank u k d ∙ c .gone u (omega arith)
-
-    others : (u : ℕ) → u < units → (j : ℕ) → j ≢ k → (u ≡ n) ⊎ (u ≢ n) → registerOf (clear k n t') u j ≡ registerOf t u j
-    others u h j d (inl e) = rw e (register-core t' n k blank j (c .shaped) place d) ∙ c .others u h j d
-    others u h j d (inr d') = register-unit t' n k blank u j d' ∙ c .others u h j d
-
-cleared : (t : Table) (k : ℕ) → Shaped t → k < cores → (n : ℕ) → n ≤ units → Cleared t (upTo (clear k) n t) k n
-unfolding upTo
-cleared t k shaped small zero h =
-    record {
-      cores = refl;
-      counts = refl;
-      counter = refl;
-      shaped = shaped;
-      gone = λ u l. absurd (not-suc-le-zero l);
-      others = λ u l j d. refl;
-    }
-cleared t k shaped small (suc n) h =
-    clear-next t (upTo (clear k) n t) k n small h (cleared t k shaped small n (omega arith))
-
--- and becomes c
-module _ (t : Table) (shaped : Shaped t) (k : ℕ) (c : Core) (small : k < cores) where
-  abbrev frees : Table
-  frees = withCore (giveUp t k) k c
-
-  given-up : Cleared t (giveUp t k) k units
-  given-up = cleared t k shaped small units (omega arith)
-
-  shaped-frees : Shaped frees
-  shaped-frees = shaped-core (giveUp t k) k c (given-up .shaped)
-
-  frees-moved : Moved t frees k c
-  frees-moved =
-      record {
-        counts = given-up .counts;
-        becomes = core-same (giveUp t k) k c (given-up .shaped) small;
-        others = λ j d. core-other (giveUp t k) k j c d ∙ ap (λ (l : List Core). getD l j idle) (given-up .cores);
-        registers = given-up .others;
-      }
-
-  -- a core that stands nowhere
-  frees-agrees :
-      stands (c .state) ≡ false →
-      twoStage (c .state) ≡ false →
-      (u : ℕ) →
-      u < units →
-      S.agrees c u (registerOf frees u k) ≡ true
-  frees-agrees p q u h = simp (p, q, given-up .gone u h)
-
-  frees-flag : (u : ℕ) → u < units → (registerOf frees u k .flag ≡ false) ⊎ (registerOf frees u k .flag ≡ registerOf t u k .flag)
-  frees-flag u h = inl (ap (λ (r : Register). r .flag) (given-up .gone u h))
-
--- C
-abbrev pub backMoves : Table → ℕ → Table
-backMoves t k =
-    let c = coreOf t k in
-    withCore (withRegister t (c .first .0) k (standing (c .own))) k (core (c .own) (c .own) (c .first) (unitNo 0) Waiting)
-
-module _ (t : Table) (k : CoreNo) (shaped : Shaped t) (s : Sound t) (may : mayComeBack t k ≡ Allowed) where
-  back-core : k .0 < cores
-  back-core = core-small t s (k .0) (may-come-back t k may .0)
-
-  back-state : coreOf t (k .0) .state ≡ Away
-  back-state = may-come-back t k may .1
-
-  back-place : coreOf t (k .0) .first .0 < unitCount t
-  back-place = first-there t s (k .0) back-core (simp back-state)
-
-  pub shaped-come-back : Shaped (backMoves t (k .0))
-  shaped-come-back = shaped-enters t shaped (k .0) _ _ _ back-core (unit-small t s _ back-place)
-
-  pub almost-come-back : Almost (backMoves t (k .0))
-  almost-come-back =
-      let c = coreOf t (k .0) in
-      let c' = stays c (c .own) (unitNo 0) Waiting in
-      let place = unit-small t s _ back-place in
-      stayed t (backMoves t (k .0)) (k .0) (c .own) (unitNo 0) Waiting s back-core
-      (record {
-        moved = enters-moved t shaped (k .0) (c .first .0) (c .own) c' back-core place;
-        counter = refl;
-        within = may-come-back t k may .0;
-        was = simp back-state;
-        live = refl;
-        named = lt-ltb _ _ back-place;
-        carries = simp (eq-eqb (c .own .0) (c .own .0) refl);
-        lends = λ j h d two l. refl;
-        agrees =
-            enters-agrees t shaped (k .0) (c .first .0) (c .own) c' back-core place
-            (simp (eq-eqb (c .first .0) (c .first .0) refl, eq-eqb (c .own .0) (c .own .0) refl))
-            (λ u h d. simp (ne-eqb u (c .first .0) d) (simp back-state at (s .unit u h .agrees (k .0) back-core)));
-        flag = enters-flag t shaped (k .0) (c .first .0) (c .own) c' back-core place;
-      })
-
--- I
-abbrev pub interruptMoves : Table → ℕ → Table
-interruptMoves t k = let c = coreOf t k in withCore (giveUp t k) k (core (c .own) (c .own) (c .first) (unitNo 0) Away)
-
-module _ (t : Table) (k : CoreNo) (shaped : Shaped t) (s : Sound t) (may : mayInterrupt t k ≡ Allowed) where
-  interrupt-core : k .0 < cores
-  interrupt-core = core-small t s (k .0) (may-interrupt t k may .0)
-
-  interrupt-live : isIdle (coreOf t (k .0) .state) ≡ false
-  interrupt-live = ⊎-elim (λ e. ap isIdle e) (λ e. ap isIdle e) (may-interrupt t k may .1)
-
-  pub shaped-interrupt : Shaped (interruptMoves t (k .0))
-  shaped-interrupt = shaped-frees t shaped (k .0) _ interrupt-core
-
-  pub almost-interrupt : Almost (interruptMoves t (k .0))
-  almost-interrupt =
-      let c = coreOf t (k .0) in
-      let c' = stays c (c .own) (unitNo 0) Away in
-      stayed t (interruptMoves t (k .0)) (k .0) (c .own) (unitNo 0) Away s interrupt-core
-      (record {
-        moved = frees-moved t shaped (k .0) c' interrupt-core;
-        counter = given-up t shaped (k .0) c' interrupt-core .counter;
-        within = may-interrupt t k may .0;
-        was = interrupt-live;
-        live = refl;
-        named = lt-ltb _ _ (first-there t s (k .0) interrupt-core interrupt-live);
-        carries = simp (eq-eqb (c .own .0) (c .own .0) refl);
-        lends = λ j h d two l. refl;
-        agrees = frees-agrees t shaped (k .0) c' interrupt-core refl refl;
-        flag = frees-flag t shaped (k .0) c' interrupt-core;
-      })
-
--- L
-abbrev pub releaseMoves : Table → ℕ → Table
-releaseMoves t k = withCore (giveUp t k) k idle
-
-module _ (t : Table) (k : CoreNo) (shaped : Shaped t) (s : Sound t) (may : mayRelease t k ≡ Allowed) where
-  release-core : k .0 < cores
-  release-core = core-small t s (k .0) (may-release t k may .0)
-
-  release-served : unserved (coreOf t (k .0) .state) ≡ false
-  release-served = ⊎-elim (λ e. ap unserved e) (λ e. ap unserved e) (may-release t k may .1)
-
-  pub shaped-release : Shaped (releaseMoves t (k .0))
-  shaped-release = shaped-frees t shaped (k .0) idle release-core
-
-  pub almost-release : Almost (releaseMoves t (k .0))
-  almost-release =
-      column-changed t (releaseMoves t (k .0)) (k .0) idle s release-core
-      (record {
-        moved = frees-moved t shaped (k .0) idle release-core;
-        within = may-release t k may .0;
-        idleBlank = refl;
-        named = refl;
-        recent = refl;
-        othersRecent = λ j h d. rw (given-up t shaped (k .0) idle release-core .counter) (s .core j h .recent);
-        apart = λ j h d p. absurd (clash refl p);
-        carries = refl;
-        lends = λ j h d two l. absurd (clash (l .unserved) release-served);
-        agrees = frees-agrees t shaped (k .0) idle release-core refl refl;
-        flag = frees-flag t shaped (k .0) idle release-core;
-      })
-
--- N
-abbrev pub nestMoves : Table → ℕ → UnitNo → Table
-nestMoves t k u =
-    let c = coreOf t k in
-    withCore (withRegister t (u .0) k (standing (c .own))) k (core (c .own) (c .own) (c .first) u WaitingSecond)
-
-module _ (t : Table) (k : CoreNo) (u : UnitNo) (shaped : Shaped t) (s : Sound t) (may : mayNest t k u ≡ Allowed) where
-  nests : Nesting t k u
-  nests = may-nest t k u may
-
-  nest-core : k .0 < cores
-  nest-core = core-small t s (k .0) (nests .within)
-
-  nest-place : u .0 < units
-  nest-place = unit-small t s (u .0) (nests .unit)
-
-  pub shaped-nest : Shaped (nestMoves t (k .0) u)
-  shaped-nest = shaped-enters t shaped (k .0) (u .0) _ _ nest-core nest-place
-
-  pub almost-nest : Almost (nestMoves t (k .0) u)
-  almost-nest =
-      let c = coreOf t (k .0) in
-      let c' = stays c (c .own) u WaitingSecond in
-      let e : c .state ≡ Holding = nests .state in
-      let other : u .0 ≢ c .first .0 = omega (arith, nests) in
-      stayed t (nestMoves t (k .0) u) (k .0) (c .own) u WaitingSecond s nest-core
-      (record {
-        moved = enters-moved t shaped (k .0) (u .0) (c .own) c' nest-core nest-place;
-        counter = refl;
-        within = nests .within;
-        was = ap isIdle e;
-        live = refl;
-        named = two-names t c' (record { first = nests .first; low = nests .second; high = nests .unit });
-        carries = simp (eq-eqb (c .own .0) (c .own .0) refl);
-        lends = λ j h d two l. absurd (clash (l .unserved) (ap unserved e));
-        agrees =
-            enters-agrees t shaped (k .0) (u .0) (c .own) c' nest-core nest-place
-            (simp (ne-eqb (u .0) (c .first .0) other, eq-eqb (u .0) (u .0) refl, eq-eqb (c .own .0) (c .own .0) refl))
-            (λ v h d. simp (ne-eqb v (u .0) d) (simp e at (s .unit v h .agrees (k .0) nest-core)));
-        flag = enters-flag t shaped (k .0) (u .0) (c .own) c' nest-core nest-place;
-      })
-
--- R: with the counter one further, a ticket lies one further behind it
-behind-next : (n x : ℕ) → behind n x < half → behind (after n) x ≡ behind n x + 1
+-- so the counter may move: the ticket lies one further behind it
+next-window : (n x : ℕ) → behind n x < half → Window (after n) x
 unfolding after
-behind-next n x h = sym (behind-only (after n) x (behind n x + 1) (omega arith) (omega (arith, behind-leads n x)))
+next-window n x h =
+    let e : behind (after n) x ≡ behind n x + 1 = sym (behind-only (after n) x (behind n x + 1) (omega arith) (omega (arith, behind-leads n x))) in
+    record { least = omega arith; most = omega arith }
 
-abbrev pub requestMoves : Table → ℕ → UnitNo → Table
-requestMoves t k u =
-    let n = t .counter in
-    withCore (withRegister (withCounter t (ticket (after (n .0)))) (u .0) k (standing n)) k (core n n u (unitNo 0) Waiting)
-
-module _ (t : Table) (k : CoreNo) (u : UnitNo) (shaped : Shaped t) (s : Sound t) (may : mayRequest t k u ≡ Allowed) where
-  abbrev counted : Table
-  counted = withCounter t (ticket (after (t .counter .0)))
-
-  abbrev waiting : Core
-  waiting = core (t .counter) (t .counter) u (unitNo 0) Waiting
-
-  requests : Requesting t k u
-  requests = may-request t k u may
-
-  request-core : k .0 < cores
-  request-core = core-small t s (k .0) (requests .within)
-
-  request-place : u .0 < units
-  request-place = unit-small t s (u .0) (requests .unit)
-
-  shaped-counted : Shaped counted
-  shaped-counted = shaped-counter t (ticket (after (t .counter .0))) shaped
-
-  pub shaped-request : Shaped (requestMoves t (k .0) u)
-  shaped-request = shaped-enters counted shaped-counted (k .0) (u .0) (t .counter) waiting request-core request-place
-
-  -- no live ticket lies half a circle behind, so the counter may move
-  live-close : (j : ℕ) → j < cores → isIdle (coreOf t j .state) ≡ false → behind (t .counter .0) (coreOf t j .own .0) < half
-  unfolding topBit
-  live-close j h live = leb-false half _ (simp live at (some-none (old t) cores (requests .close) j h))
-
-  moved-window : (j : ℕ) → j < cores → isIdle (coreOf t j .state) ≡ false → Window (after (t .counter .0)) (coreOf t j .own .0)
-  moved-window j h live =
-      let e = behind-next (t .counter .0) (coreOf t j .own .0) (live-close j h live) in
-      let l = live-close j h live in
-      record { least = omega arith; most = omega arith }
-
-  new-window : Window (after (t .counter .0)) (t .counter .0)
-  new-window =
-      let z = behind-self (t .counter .0) in
-      let e = behind-next (t .counter .0) (t .counter .0) (omega arith) in
-      record { least = omega arith; most = omega arith }
-
-  pub almost-request : Almost (requestMoves t (k .0) u)
-  almost-request =
-      let c = coreOf t (k .0) in
-      let n = t .counter in
-      let e : c .state ≡ Idle = requests .state in
-      let w = enters-moved counted shaped-counted (k .0) (u .0) n waiting request-core request-place in
-      column-changed t (requestMoves t (k .0) u) (k .0) waiting s request-core
-      (record {
-        moved = record { counts = refl; becomes = w .becomes; others = w .others; registers = w .registers };
-        within = requests .within;
-        idleBlank = refl;
-        named = lt-ltb _ _ (requests .unit);
-        recent = window-recent (requestMoves t (k .0) u) waiting (λ live. new-window);
-        othersRecent = λ j h d. window-recent (requestMoves t (k .0) u) (coreOf t j) (moved-window j h);
-        apart = λ j h d p live same.
-            let far = live-window t s j h live .least in
-            let z = behind-self (n .0) in
-            let o = ap (behind (n .0)) same in
-            omega arith;
-        carries = simp (eq-eqb (n .0) (n .0) refl);
-        lends = λ j h d two l. absurd (clash (l .unserved) (ap unserved e));
-        agrees =
-            enters-agrees counted shaped-counted (k .0) (u .0) n waiting request-core request-place
-            (simp (eq-eqb (u .0) (u .0) refl, eq-eqb (n .0) (n .0) refl))
-            (λ v h d. simp (ne-eqb v (u .0) d) (simp e at (s .unit v h .agrees (k .0) request-core)));
-        flag = enters-flag counted shaped-counted (k .0) (u .0) n waiting request-core request-place;
-      })
-
--- P, flag set
+-- a register entered at unit v agrees there, and the others as they did
+entered-agrees :
+    (t : Table) (k : ℕ) (c : Core) (v : ℕ) (r : Register) →
+    S.agrees c v r ≡ true →
+    ((u : ℕ) → u < units → u ≢ v → S.agrees c u (registerOf t u k) ≡ true) →
+    (u : ℕ) →
+    u < units →
+    S.agrees c u (entered t k v r u) ≡ true
+entered-agrees t k c v r here there u h = go (same-or-not u v)
+  where
+    go : (u ≡ v) ⊎ (u ≢ v) → S.agrees c u (entered t k v r u) ≡ true
+    go (inl e) = rw (eq-eqb u v e, e) here
+    go (inr d) = rw (ne-eqb u v d) (there u h d)
 
 -- a register with its flag set shows a held unit, where it stands
 held-at :
@@ -496,13 +179,6 @@ two-stage WaitingSecond e = record { live = refl; stands = refl; first = refl }
 two-stage HoldingBoth e = record { live = refl; stands = refl; first = refl }
 two-stage Away e = absurd (clash e refl)
 
-shown-flag : (r : Register) (n : Ticket) → S.shows r n true ≡ true → r .flag ≡ true
-shown-flag r n h = go (r .flag) (and-right (r .valid && eqb (r .ticket .0) (n .0)) _ h)
-  where
-    go : (b : Bool) → (b || false) ≡ true → b ≡ true
-    go true e = refl
-    go false e = e
-
 -- a core with a second unit has the flag of its first
 pub first-flag :
     (t : Table) →
@@ -517,140 +193,27 @@ first-flag t a j h two =
     let z = two-stage (c .state) two in
     let same = eq-eqb (c .first .0) (c .first .0) refl in
     let agrees = a .agrees (c .first .0) (first-place t a j h (z .live)) j h in
-    shown-flag r (c .own) (simp (z .stands, z .first, same) at agrees)
-
-abbrev pub grantedMoves : Table → ℕ → Table
-grantedMoves t k = let c = coreOf t k in withCore t k (core (c .own) (c .carried) (c .first) (c .second) (served (c .state)))
-
-module _ (t : Table) (shaped : Shaped t) (s : Sound t) (k : ℕ) (within : k < t .counts .cores) where
-  core-moved : (c : Core) → Moved t (withCore t k c) k c
-  core-moved c =
-      record {
-        counts = refl;
-        becomes = core-same t k c shaped (core-small t s k within);
-        others = λ j d. core-other t k j c d;
-        registers = λ u h j d. refl;
-      }
-
-  granted-first :
-      coreOf t k .state ≡ Waiting →
-      registerOf t (coreOf t k .first .0) k .flag ≡ true →
-      Almost (withCore t k (stays (coreOf t k) (coreOf t k .carried) (coreOf t k .second) Holding))
-  granted-first e f =
-      let c = coreOf t k in
-      let c' = stays c (c .carried) (c .second) Holding in
-      let small = core-small t s k within in
-      stayed t (withCore t k c') k (c .carried) (c .second) Holding s small
-      (record {
-        moved = core-moved c';
-        counter = refl;
-        within = within;
-        was = ap isIdle e;
-        live = refl;
-        named = lt-ltb _ _ (first-there t s k small (ap isIdle e));
-        carries = simp e at (s .core k small .carries);
-        lends = λ j h d two l.
-            absurd
-            (d (count-unique (λ (i : ℕ). registerOf t (c .first .0) i .flag) cores j k
-            (sound-few t s (c .first .0) (unit-small t s _ (first-there t s k small (ap isIdle e)))) h small
-            (rw (l .first) (first-flag t (sound-almost t s) j h two)) f));
-        agrees = λ u h.
-            held-at (eqb u (c .first .0)) _ (registerOf t u k) (c .own) (λ q. rw (eqb-true u (c .first .0) q) f)
-            (simp e at (s .unit u h .agrees k small));
-        flag = λ u h. inr refl;
-      })
-
-  granted-second :
-      coreOf t k .state ≡ WaitingSecond →
-      registerOf t (coreOf t k .second .0) k .flag ≡ true →
-      Almost (withCore t k (stays (coreOf t k) (coreOf t k .carried) (coreOf t k .second) HoldingBoth))
-  granted-second e f =
-      let c = coreOf t k in
-      let c' = stays c (c .carried) (c .second) HoldingBoth in
-      let small = core-small t s k within in
-      stayed t (withCore t k c') k (c .carried) (c .second) HoldingBoth s small
-      (record {
-        moved = core-moved c';
-        counter = refl;
-        within = within;
-        was = ap isIdle e;
-        live = refl;
-        named = simp e at (s .core k small .named);
-        carries =
-            lenders-others t (withCore t k c') k c' (λ j d. core-other t k j c' d) (ap unserved e)
-            (simp e at (s .core k small .carries));
-        lends = λ j h d two l. absurd (clash (l .unserved) (ap unserved e));
-        agrees = λ u h.
-            cond-else (eqb u (c .first .0)) _ _ _
-            (held-at (eqb u (c .second .0)) _ (registerOf t u k) (c .carried) (λ q. rw (eqb-true u (c .second .0) q) f))
-            (simp e at (s .unit u h .agrees k small));
-        flag = λ u h. inr refl;
-      })
-
-module _ (t : Table) (k : CoreNo) (shaped : Shaped t) (s : Sound t) (may : mayPoll t k ≡ Allowed) where
-  pub shaped-granted : Shaped (grantedMoves t (k .0))
-  shaped-granted = shaped-core t (k .0) _ shaped
-
-  pub almost-granted : registerOf t (awaited (coreOf t (k .0))) (k .0) .flag ≡ true → Almost (grantedMoves t (k .0))
-  almost-granted f = ⊎-elim at-first at-second (may-poll t k may .1)
-    where
-      at-first : coreOf t (k .0) .state ≡ Waiting → Almost (grantedMoves t (k .0))
-      at-first e = rw e (granted-first t shaped s (k .0) (may-poll t k may .0) e (simp e at f))
-
-      at-second : coreOf t (k .0) .state ≡ WaitingSecond → Almost (grantedMoves t (k .0))
-      at-second e = rw e (granted-second t shaped s (k .0) (may-poll t k may .0) e (simp e at f))
-
--- P, flag clear at the second stage
-
-pub blank-out : (r : Register) → S.isBlank r ≡ true → inLine r ≡ true → ⊥
-blank-out r b l =
-    let v = and-right (eqb (r .ticket .0) 0) _ (and-left (eqb (r .ticket .0) 0 && not (r .valid)) _ b) in
-    clash (and-left (r .valid) _ l) (not-true-false (r .valid) v)
-
-pub held-out : (r : Register) (n : Ticket) → S.shows r n true ≡ true → inLine r ≡ true → ⊥
-held-out r n h l = clash (shown-flag r n h) (not-true-false (r .flag) (and-right (r .valid) _ l))
+    shows r (c .own) true (simp (z .stands, two, same) at agrees) .flag refl
 
 -- core d waits for unit u, its first, with the ticket n
-record WaitsAt (d : Core) (u : ℕ) (n : Ticket) : Type 0 where
-  state : d .state ≡ Waiting
-  first : d .first .0 ≡ u
-  own : d .own .0 ≡ n .0
+pub record WaitsAt (d : Core) (u : ℕ) (n : Ticket) : Type 0 where
+  pub state : d .state ≡ Waiting
+  pub first : d .first .0 ≡ u
+  pub own : d .own .0 ≡ n .0
 
--- whoever is in line at a first-class unit waits for it
-in-line-waits :
+-- so does whoever is in line at a first-class unit
+pub in-line-waits :
     (t : Table) (d : Core) (u : ℕ) (r : Register) →
     u < t .counts .first →
     S.named t d ≡ true →
     S.agrees d u r ≡ true →
     inLine r ≡ true →
     WaitsAt d u (r .ticket)
-in-line-waits t d u r low named agrees line = go (d .state) refl
-  where
-    waiting :
-        (b : Bool) →
-        d .state ≡ Waiting →
-        eqb u (d .first .0) ≡ b →
-        cond b (S.shows r (d .own) false) (S.isBlank r) ≡ true →
-        WaitsAt d u (r .ticket)
-    waiting true e q h =
-        let same = and-right (r .valid) _ (and-left (r .valid && eqb (r .ticket .0) (d .own .0)) _ h) in
-        record { state = e; first = sym (eqb-true u (d .first .0) q); own = sym (eqb-true (r .ticket .0) (d .own .0) same) }
-    waiting false e q h = absurd (blank-out r h line)
-
-    holding : (b : Bool) → cond b (S.shows r (d .own) true) (S.isBlank r) ≡ true → WaitsAt d u (r .ticket)
-    holding true h = absurd (held-out r (d .own) h line)
-    holding false h = absurd (blank-out r h line)
-
-    elsewhere : S.names t d true ≡ true → eqb u (d .second .0) ≡ false
-    elsewhere h = ne-eqb u (d .second .0) (omega (arith, names-two t d h))
-
-    go : (z : State) → d .state ≡ z → WaitsAt d u (r .ticket)
-    go Idle e = absurd (blank-out r (simp e at agrees) line)
-    go Waiting e = waiting (eqb u (d .first .0)) e refl (simp e at agrees)
-    go Holding e = holding (eqb u (d .first .0)) (simp e at agrees)
-    go WaitingSecond e = holding (eqb u (d .first .0)) (simp (e, elsewhere (simp e at named)) at agrees)
-    go HoldingBoth e = holding (eqb u (d .first .0)) (simp (e, elsewhere (simp e at named)) at agrees)
-    go Away e = absurd (blank-out r (simp e at agrees) line)
+in-line-waits t d u r low named agrees line =
+    ⊎-elim
+    (λ a. record { state = a .0; first = sym (a .1 .unit); own = sym (a .1 .shows .ticket) })
+    (λ a. let e = a .0 in let q = a .1 .unit in absurd (omega (arith, names-two t d (simp e at named))))
+    (in-line-at d u r agrees line)
 
 -- a core that lends is live
 pub unserved-live : (z : State) → unserved z ≡ true → isIdle z ≡ false
@@ -660,13 +223,6 @@ unserved-live Holding e = refl
 unserved-live WaitingSecond e = refl
 unserved-live HoldingBoth e = refl
 unserved-live Away e = refl
-
--- the winner of a unit is in line there, with its ticket
-abbrev pub NextWon : Type 0
-NextWon =
-    (x : LockUnit) (k : CoreNo) (n : Ticket) →
-    next x ≡ Won k n →
-    (inLine (registerIn x (k .0)) ≡ true) × (registerIn x (k .0) .ticket ≡ n) × (k .0 < cores)
 
 -- what the register in line shows may be inherited
 module _ (t : Table) (s : Sound t) (k : ℕ) (small : k < cores) (e : coreOf t k .state ≡ WaitingSecond) where
@@ -710,77 +266,241 @@ module _ (t : Table) (s : Sound t) (k : ℕ) (small : k < cores) (e : coreOf t k
       (lending c' (coreOf t j) (record { unserved = ap unserved (w .state); first = w .first; own = w .own })))
       (older-own (m .0) wm o))
 
-  module _ (next-won : NextWon) where
-    inherited-ticket : S.carries t (stays (coreOf t k) (inherited t (coreOf t k)) (coreOf t k .second) WaitingSecond) ≡ true
-    inherited-ticket = go (next (unitOf t (coreOf t k .first .0))) refl
-      where
-        pick :
-            (b : Bool) (j : ℕ) (m : Ticket) →
-            j < cores →
-            WaitsAt (coreOf t j) (coreOf t k .first .0) m →
-            older (m .0) (coreOf t k .carried .0) ≡ b →
-            S.carries t (stays (coreOf t k) (cond b m (coreOf t k .carried)) (coreOf t k .second) WaitingSecond) ≡ true
-        pick true j m h w o = new-ticket j m h w o
-        pick false j m h w o = kept-ticket
+  inherited-ticket : S.carries t (stays (coreOf t k) (inherited t (coreOf t k)) (coreOf t k .second) WaitingSecond) ≡ true
+  inherited-ticket = go (next (unitOf t (coreOf t k .first .0))) refl
+    where
+      pick :
+          (b : Bool) (j : ℕ) (m : Ticket) →
+          j < cores →
+          WaitsAt (coreOf t j) (coreOf t k .first .0) m →
+          older (m .0) (coreOf t k .carried .0) ≡ b →
+          S.carries t (stays (coreOf t k) (cond b m (coreOf t k .carried)) (coreOf t k .second) WaitingSecond) ≡ true
+      pick true j m h w o = new-ticket j m h w o
+      pick false j m h w o = kept-ticket
 
-        go :
-            (b : Best) →
-            next (unitOf t (coreOf t k .first .0)) ≡ b →
-            S.carries t (stays (coreOf t k) (heir (coreOf t k .carried) b) (coreOf t k .second) WaitingSecond) ≡ true
-        go Nobody q = kept-ticket
-        go (Won j m) q =
-            let c = coreOf t k in
-            let w = next-won (unitOf t (c .first .0)) j m q in
-            let place = unit-small t s (c .first .0) (first-there t s k small (ap isIdle e)) in
-            let line =
-            in-line-waits t (coreOf t (j .0)) (c .first .0) (registerOf t (c .first .0) (j .0)) (second-two .first)
-            (s .core (j .0) (w .2) .named)
-            (s .unit (c .first .0) place .agrees (j .0) (w .2))
-            (w .0)
-            in
-            pick (older (m .0) (c .carried .0)) (j .0) m (w .2) (rw (w .1) at line) refl
+      go :
+          (b : Best) →
+          next (unitOf t (coreOf t k .first .0)) ≡ b →
+          S.carries t (stays (coreOf t k) (heir (coreOf t k .carried) b) (coreOf t k .second) WaitingSecond) ≡ true
+      go Nobody q = kept-ticket
+      go (Won j m) q =
+          let c = coreOf t k in
+          let w = next-won (unitOf t (c .first .0)) j m q in
+          let place = unit-small t s (c .first .0) (first-there t s k small (ap isIdle e)) in
+          let line =
+          in-line-waits t (coreOf t (j .0)) (c .first .0) (registerOf t (c .first .0) (j .0)) (second-two .first)
+          (s .core (j .0) (w .2) .named)
+          (s .unit (c .first .0) place .agrees (j .0) (w .2))
+          (w .0)
+          in
+          pick (older (m .0) (c .carried .0)) (j .0) m (w .2) (rw (w .1) at line) refl
 
-module _ (t : Table) (k : CoreNo) (shaped : Shaped t) (s : Sound t) (may : mayPoll t k ≡ Allowed)
-    (two : twoStage (coreOf t (k .0) .state) ≡ true) where
-  carrying-core : k .0 < cores
-  carrying-core = core-small t s (k .0) (may-poll t k may .0)
+-- Each step, before settling
 
-  carrying-state : coreOf t (k .0) .state ≡ WaitingSecond
-  carrying-state = ⊎-elim (λ e. absurd (clash two (ap twoStage e))) (λ e. e) (may-poll t k may .1)
+module _ (t : Table) (shaped : Shaped t) (s : Sound t) (k : CoreNo) where
+  abbrev c : Core
+  c = coreOf t (k .0)
 
-  carrying-place : coreOf t (k .0) .second .0 < units
-  carrying-place = unit-small t s _ (second-two t s (k .0) carrying-core carrying-state .high)
-
-  pub shaped-carrying : (n : Ticket) → Shaped (carrying t (k .0) n)
-  shaped-carrying n = shaped-enters t shaped (k .0) _ n _ carrying-core carrying-place
-
-  pub almost-carrying : NextWon → Almost (carrying t (k .0) (inherited t (coreOf t (k .0))))
-  almost-carrying next-won =
-      let c = coreOf t (k .0) in
-      let e = carrying-state in
-      let n = inherited t c in
-      let c' = stays c n (c .second) WaitingSecond in
-      let t' = withCore (withRegister t (c .second .0) (k .0) (standing n)) (k .0) c' in
-      let names = second-two t s (k .0) carrying-core e in
-      let other : c .second .0 ≢ c .first .0 = omega (arith, names) in
-      rw e
-      (stayed t t' (k .0) n (c .second) WaitingSecond s carrying-core
+  almost-request : (u : UnitNo) → verdict t (R k u) ≡ Allowed → Almost (moves t (R k u))
+  almost-request u may =
+      let n = t .counter in
+      let r = may-request t k u may in
+      let waiting = core n n u (unitNo 0) Waiting in
+      let self = behind-self (n .0) in
+      column-changed t shaped s (k .0) (r .within) (request u n)
       (record {
-        moved = enters-moved t shaped (k .0) (c .second .0) n c' carrying-core carrying-place;
-        counter = refl;
-        within = may-poll t k may .0;
-        was = ap isIdle e;
-        live = refl;
-        named = two-names t c' (record { first = names .first; low = names .low; high = names .high });
-        carries =
-            lenders-others t t' (k .0) c' (λ j d. core-other t (k .0) j c' d) (ap unserved e)
-            (inherited-ticket t s (k .0) carrying-core e next-won);
-        lends = λ j h d two l. absurd (clash (l .unserved) (ap unserved e));
+        idleBlank = refl;
+        named = lt-ltb _ _ (r .unit);
+        recent = window-recent (moves t (R k u)) waiting (λ live. next-window (n .0) (n .0) (omega arith));
+        othersRecent = λ j h.
+            window-recent (moves t (R k u)) (coreOf t j)
+            (λ live. next-window (n .0) (coreOf t j .own .0) (live-close t s (r .close) j h live));
+        apart = λ j h d p live same.
+            let far = live-window t s j h live .least in
+            let o = ap (behind (n .0)) same in
+            omega arith;
+        carries = simp (eq-eqb (n .0) (n .0) refl);
+        lends = λ j h d two l. absurd (clash (l .unserved) (ap unserved (r .state)));
         agrees =
-            enters-agrees t shaped (k .0) (c .second .0) n c' carrying-core carrying-place
-            (simp (ne-eqb (c .second .0) (c .first .0) other, eq-eqb (c .second .0) (c .second .0) refl, eq-eqb (n .0) (n .0) refl))
-            (λ u h d.
-            let away = ne-eqb u (c .second .0) d in
-            simp away (simp (e, away) at (s .unit u h .agrees (k .0) carrying-core)));
-        flag = enters-flag t shaped (k .0) (c .second .0) n c' carrying-core carrying-place;
-      }))
+            entered-agrees t (k .0) waiting (u .0) (standing n)
+            (simp (eq-eqb (u .0) (u .0) refl, eq-eqb (n .0) (n .0) refl))
+            (λ v h d.
+            simp (ne-eqb v (u .0) d) (simp (r .state) at (s .unit v h .agrees (k .0) (small t shaped s (k .0) (r .within)))));
+      })
+
+  almost-nest : (u : UnitNo) → verdict t (N k u) ≡ Allowed → Almost (moves t (N k u))
+  almost-nest u may =
+      let r = may-nest t k u may in
+      let c' = stays c (c .own) u WaitingSecond in
+      let other : u .0 ≢ c .first .0 = omega (arith, r) in
+      stayed t shaped s (k .0) (r .within) (c .own) u WaitingSecond (Enter u (c .own))
+      (record {
+        was = ap isIdle (r .state);
+        live = refl;
+        named = two-names t c' (record { first = r .first; low = r .second; high = r .unit });
+        carries = simp (eq-eqb (c .own .0) (c .own .0) refl);
+        lends = λ j h d two l. absurd (clash (l .unserved) (ap unserved (r .state)));
+        agrees =
+            entered-agrees t (k .0) c' (u .0) (standing (c .own))
+            (simp (ne-eqb (u .0) (c .first .0) other, eq-eqb (u .0) (u .0) refl, eq-eqb (c .own .0) (c .own .0) refl))
+            (λ v h d.
+            simp (ne-eqb v (u .0) d) (simp (r .state) at (s .unit v h .agrees (k .0) (small t shaped s (k .0) (r .within)))));
+      })
+
+  almost-come-back : verdict t (C k) ≡ Allowed → Almost (moves t (C k))
+  almost-come-back may =
+      let r = may-come-back t k may in
+      let l = small t shaped s (k .0) (r .0) in
+      stayed t shaped s (k .0) (r .0) (c .own) (unitNo 0) Waiting (Enter (c .first) (c .own))
+      (record {
+        was = ap isIdle (r .1);
+        live = refl;
+        named = lt-ltb _ _ (first-there t s (k .0) l (ap isIdle (r .1)));
+        carries = simp (eq-eqb (c .own .0) (c .own .0) refl);
+        lends = λ j h d two l. refl;
+        agrees =
+            entered-agrees t (k .0) (stays c (c .own) (unitNo 0) Waiting) (c .first .0) (standing (c .own))
+            (simp (eq-eqb (c .first .0) (c .first .0) refl, eq-eqb (c .own .0) (c .own .0) refl))
+            (λ u h d. simp (ne-eqb u (c .first .0) d) (simp (r .1) at (s .unit u h .agrees (k .0) l)));
+      })
+
+  almost-interrupt : verdict t (I k) ≡ Allowed → Almost (moves t (I k))
+  almost-interrupt may =
+      let r = may-interrupt t k may in
+      let live = ⊎-elim (λ e. ap isIdle e) (λ e. ap isIdle e) (r .1) in
+      stayed t shaped s (k .0) (r .0) (c .own) (unitNo 0) Away GiveUp
+      (record {
+        was = live;
+        live = refl;
+        named = lt-ltb _ _ (first-there t s (k .0) (small t shaped s (k .0) (r .0)) live);
+        carries = simp (eq-eqb (c .own .0) (c .own .0) refl);
+        lends = λ j h d two l. refl;
+        agrees = λ u h. refl;
+      })
+
+  almost-release : verdict t (L k) ≡ Allowed → Almost (moves t (L k))
+  almost-release may =
+      let r = may-release t k may in
+      column-changed t shaped s (k .0) (r .0) (release (t .counter) c)
+      (record {
+        idleBlank = refl;
+        named = refl;
+        recent = refl;
+        othersRecent = λ j h. s .core j h .recent;
+        apart = λ j h d p. absurd (clash refl p);
+        carries = refl;
+        lends = λ j h d two l.
+            absurd (clash (l .unserved) (⊎-elim (λ e. ap unserved e) (λ e. ap unserved e) (r .1)));
+        agrees = λ u h. refl;
+      })
+
+  -- a core at the second stage lends to nobody, so what it may carry before its effect it may carry after
+  carries-on :
+      (e : Effect) → k .0 < cores → unserved (c .state) ≡ false → S.carries t (e .core) ≡ true → S.carries (affected t (k .0) e) (e .core) ≡ true
+  carries-on e h = lenders-others t (affected t (k .0) e) (k .0) (e .core) (affected-moved t shaped (k .0) h e .others)
+
+  module _ (may : verdict t (P k) ≡ Allowed) where
+    within : k .0 < t .counts .cores
+    within = may-poll t k may .0
+
+    l : k .0 < cores
+    l = small t shaped s (k .0) within
+
+    -- P, flag set: waiting for the first unit, or for the second
+    hold-first : c .state ≡ Waiting → registerOf t (c .first .0) (k .0) .flag ≡ true → Almost (holding t (k .0))
+    hold-first e f =
+        rw e
+        (stayed t shaped s (k .0) within (c .carried) (c .second) Holding Stay
+        (record {
+          was = ap isIdle e;
+          live = refl;
+          named = lt-ltb _ _ (first-there t s (k .0) l (ap isIdle e));
+          carries = simp e at (s .core (k .0) l .carries);
+          lends = λ j h d two x.
+              absurd
+              (d (count-unique (λ (i : ℕ). registerOf t (c .first .0) i .flag) cores j (k .0)
+              (sound-few t s (c .first .0) (unit-small t s _ (first-there t s (k .0) l (ap isIdle e)))) h l
+              (rw (x .first) (first-flag t (sound-almost t s) j h two)) f));
+          agrees = λ u h.
+              held-at (eqb u (c .first .0)) _ (registerOf t u (k .0)) (c .own) (λ q. rw (eqb-true u (c .first .0) q) f)
+              (simp e at (s .unit u h .agrees (k .0) l));
+        }))
+
+    hold-second : c .state ≡ WaitingSecond → registerOf t (c .second .0) (k .0) .flag ≡ true → Almost (holding t (k .0))
+    hold-second e f =
+        rw e
+        (stayed t shaped s (k .0) within (c .carried) (c .second) HoldingBoth Stay
+        (record {
+          was = ap isIdle e;
+          live = refl;
+          named = simp e at (s .core (k .0) l .named);
+          carries = carries-on (staying t (k .0) (c .carried) (c .second) HoldingBoth Stay) l (ap unserved e) (simp e at (s .core (k .0) l .carries));
+          lends = λ j h d two x. absurd (clash (x .unserved) (ap unserved e));
+          agrees = λ u h.
+              cond-else (eqb u (c .first .0)) _ _ _
+              (held-at (eqb u (c .second .0)) _ (registerOf t u (k .0)) (c .carried) (λ q. rw (eqb-true u (c .second .0) q) f))
+              (simp e at (s .unit u h .agrees (k .0) l));
+        }))
+
+    -- P, flag clear at the second stage
+    almost-carrying : c .state ≡ WaitingSecond → Almost (carrying t (k .0) (inherited t c))
+    almost-carrying e =
+        let n = inherited t c in
+        let c' = stays c n (c .second) WaitingSecond in
+        let names = second-two t s (k .0) l e in
+        let other : c .second .0 ≢ c .first .0 = omega (arith, names) in
+        rw e
+        (stayed t shaped s (k .0) within n (c .second) WaitingSecond (Carry n)
+        (record {
+          was = ap isIdle e;
+          live = refl;
+          named = two-names t c' (record { first = names .first; low = names .low; high = names .high });
+          carries = carries-on (staying t (k .0) n (c .second) WaitingSecond (Carry n)) l (ap unserved e) (inherited-ticket t s (k .0) l e);
+          lends = λ j h d two x. absurd (clash (x .unserved) (ap unserved e));
+          agrees =
+              entered-agrees t (k .0) c' (c .second .0) (standing n)
+              (simp (ne-eqb (c .second .0) (c .first .0) other, eq-eqb (c .second .0) (c .second .0) refl, eq-eqb (n .0) (n .0) refl))
+              (λ u h d.
+              let away = ne-eqb u (c .second .0) d in
+              simp away (simp (e, away) at (s .unit u h .agrees (k .0) l)));
+        }))
+
+    almost-poll : Almost (moves t (P k))
+    almost-poll = ⊎-elim at-first at-second (may-poll t k may .1)
+      where
+        at-first : c .state ≡ Waiting → Almost (moves t (P k))
+        at-first e =
+            poll-moves t k Almost (λ f. hold-first e (simp e at f)) (λ f two. absurd (clash two (ap twoStage e))) (sound-almost t s)
+
+        at-second : c .state ≡ WaitingSecond → Almost (moves t (P k))
+        at-second e = poll-moves t k Almost (λ f. hold-second e (simp e at f)) (λ f two. almost-carrying e) (sound-almost t s)
+
+-- Every step
+
+module _ (t : Table) (shaped : Shaped t) (s : Sound t) where
+  pub moves-almost : (z : Step) → verdict t z ≡ Allowed → Almost (moves t z)
+  moves-almost (R k u) = almost-request t shaped s k u
+  moves-almost (N k u) = almost-nest t shaped s k u
+  moves-almost (P k) = almost-poll t shaped s k
+  moves-almost (I k) = almost-interrupt t shaped s k
+  moves-almost (C k) = almost-come-back t shaped s k
+  moves-almost (L k) = almost-release t shaped s k
+
+  allowed-core : (z : Step) → verdict t z ≡ Allowed → whose z .0 < t .counts .cores
+  allowed-core (R k u) may = may-request t k u may .within
+  allowed-core (N k u) may = may-nest t k u may .within
+  allowed-core (P k) may = may-poll t k may .0
+  allowed-core (I k) may = may-interrupt t k may .0
+  allowed-core (C k) may = may-come-back t k may .0
+  allowed-core (L k) may = may-release t k may .0
+
+  -- it names a core of the table, and moves nothing but that core's column
+  module _ (z : Step) (may : verdict t z ≡ Allowed) where
+    pub moves-core : whose z .0 < cores
+    moves-core = small t shaped s (whose z .0) (allowed-core z may)
+
+    pub moves-shaped : Shaped (moves t z)
+    moves-shaped = affected-shaped t shaped (whose z .0) moves-core (effectOn t z)
+
+    pub moves-moved : Moved t (moves t z) (whose z .0) (effectOn t z .core)
+    moves-moved = affected-moved t shaped (whose z .0) moves-core (effectOn t z)

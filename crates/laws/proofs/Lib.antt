@@ -1,5 +1,7 @@
 pub mod Almost
+pub mod Agreeing
 pub mod Settling
+pub mod Moving
 pub mod Columns
 pub mod Kept
 pub mod Oldest

@@ -2,7 +2,7 @@
 -- a live core, of the one that shows it or of one that lends it; so the tickets lie in the window behind the counter, and no two
 -- cores at a unit show the same one, as a core lends to one core only, and does not stand where its ticket is borrowed.
 use Prim.Native.Nat.{ℕ, _<_}
-use mathlib.Core.Bool.{Bool, true, false, cond, _&&_, not}
+use mathlib.Core.Bool.{Bool, true, false}
 use mathlib.Core.Logic.{_⊎_, inl, inr, ⊎-elim, _≢_}
 use mathlib.Core.Path.{_≡_, refl, sym, _∙_}
 use native.Mathlib.Omega.{arith}
@@ -12,23 +12,23 @@ use Rattle.ticket.specs.Order.{circle, older, Window}
 use Rattle.ticket.specs.declared.kinds.CoreNo.{CoreNo}
 use Rattle.ticket.specs.declared.kinds.Ticket.{Ticket}
 use Rattle.parts.specs.Fold.{some}
-use Rattle.parts.specs.State.{isIdle, stands, holdsFirst, holdsBoth, twoStage, unserved}
+use Rattle.parts.specs.State.{isIdle, stands, twoStage, unserved}
 use Rattle.parts.specs.Parts.{cores, units}
 use Rattle.block.specs.Table.{coreOf, unitOf, registerOf}
-use Rattle.plan.specs.Settle.{inLine, next}
+use Rattle.settling.specs.Line.{inLine, next}
 use Rattle.block.specs.Sound as S
 use Rattle.block.specs.Parts.{Sound}
 use Rattle.parts.specs.declared.kinds.Core.{Core}
-use Rattle.parts.specs.declared.kinds.Register.{Register}
 use Rattle.parts.specs.declared.kinds.State.{State}
 use Rattle.parts.specs.declared.kinds.State.the-variants.{Idle, Waiting, Holding, WaitingSecond, HoldingBoth, Away}
 use Rattle.block.specs.declared.table.Table.{Table}
-use Rattle.plan.specs.declared.settle.Best.the-variants.{Nobody, Core as Won}
-use Rattle.parts.proofs.Bools.{and-left, and-right, or-cases, not-true-false, clash}
+use Rattle.settling.specs.declared.line.Best.the-variants.{Nobody, Won}
+use Rattle.parts.proofs.Bools.{and-left, or-cases, clash}
 use Rattle.parts.proofs.Folds.{some-at, count-unique}
-use Rattle.block.proofs.Access.{same-or-not}
+use Rattle.parts.proofs.Along.{same-or-not}
 use Rattle.laws.proofs.Almost.{Almost}
-use Rattle.block.proofs.Picking.{next-won, nobody-next, next-nobody, next-oldest}
+use Rattle.laws.proofs.Agreeing.{AtFirst, AtSecond, valid-at}
+use Rattle.settling.proofs.Picking.{next-won, nobody-next, next-nobody, next-oldest}
 use Rattle.laws.proofs.Columns.{Lends, lent, differ-apart, sound-almost}
 use Rattle.laws.proofs.Kept.{names-two, recent-window, two-stage, first-flag, first-place, unserved-live}
 
@@ -52,49 +52,6 @@ unserved-single WaitingSecond e = absurd (clash e refl)
 unserved-single HoldingBoth e = absurd (clash e refl)
 unserved-single Away e = refl
 
--- a valid register stands at the core's first unit with the own ticket, or at its second with the carried one
-module _ (c : Core) (u : ℕ) (r : Register) where
-  record AtFirst : Type 0 where
-    stands : stands (c .state) ≡ true
-    unit : u ≡ c .first .0
-    ticket : r .ticket .0 ≡ c .own .0
-
-  record AtSecond : Type 0 where
-    two : twoStage (c .state) ≡ true
-    unit : u ≡ c .second .0
-    ticket : r .ticket .0 ≡ c .carried .0
-
-  shown-ticket : (n : Ticket) (held : Bool) → S.shows r n held ≡ true → r .ticket .0 ≡ n .0
-  shown-ticket n held h =
-      eqb-true (r .ticket .0) (n .0) (and-right (r .valid) _ (and-left (r .valid && eqb (r .ticket .0) (n .0)) _ h))
-
-  shown : S.agrees c u r ≡ true → r .valid ≡ true → AtFirst ⊎ AtSecond
-  shown agrees valid = go (stands (c .state) && eqb u (c .first .0)) (twoStage (c .state) && eqb u (c .second .0)) refl refl agrees
-    where
-      go :
-          (p q : Bool) →
-          (stands (c .state) && eqb u (c .first .0)) ≡ p →
-          (twoStage (c .state) && eqb u (c .second .0)) ≡ q →
-          cond p (S.shows r (c .own) (holdsFirst (c .state))) (cond q (S.shows r (c .carried) (holdsBoth (c .state))) (S.isBlank r)) ≡ true →
-          AtFirst ⊎ AtSecond
-      go true q d e h =
-          inl
-          (record {
-            stands = and-left (stands (c .state)) _ d;
-            unit = eqb-true u (c .first .0) (and-right (stands (c .state)) _ d);
-            ticket = shown-ticket (c .own) (holdsFirst (c .state)) h;
-          })
-      go false true d e h =
-          inr
-          (record {
-            two = and-left (twoStage (c .state)) _ e;
-            unit = eqb-true u (c .second .0) (and-right (twoStage (c .state)) _ e);
-            ticket = shown-ticket (c .carried) (holdsBoth (c .state)) h;
-          })
-      go false false d e h =
-          let empty = and-right (eqb (r .ticket .0) 0) _ (and-left (eqb (r .ticket .0) 0 && not (r .valid)) _ h) in
-          absurd (clash valid (not-true-false (r .valid) empty))
-
 -- core k stands at u, its second unit, with a ticket that core j lends
 pub record Borrows (t : Table) (u k j : ℕ) : Type 0 where
   pub two : twoStage (coreOf t k .state) ≡ true
@@ -115,7 +72,7 @@ module _ (t : Table) (a : Almost t) (u : ℕ) (place : u < units) where
       k < cores →
       registerOf t u k .valid ≡ true →
       AtFirst (coreOf t k) u (registerOf t u k) ⊎ AtSecond (coreOf t k) u (registerOf t u k)
-  stood k h v = shown (coreOf t k) u (registerOf t u k) (a .agrees u place k h) v
+  stood k h = valid-at (coreOf t k) u (registerOf t u k) (a .agrees u place k h)
 
   module _ (k : ℕ) (h : k < cores) where
     abbrev c : Core
@@ -123,7 +80,7 @@ module _ (t : Table) (a : Almost t) (u : ℕ) (place : u < units) where
 
     owner-first : AtFirst c u (registerOf t u k) → Owner t u k
     owner-first f =
-        record { core = k; small = h; live = stands-live (c .state) (f .stands); own = sym (f .ticket); how = inl refl }
+        record { core = k; small = h; live = stands-live (c .state) (f .stands); own = sym (f .shows .ticket); how = inl refl }
 
     owner-second : AtSecond c u (registerOf t u k) → Owner t u k
     owner-second f = ⊎-elim mine lender (or-cases (eqb (c .carried .0) (c .own .0)) _ (simp (f .two) at (a .core k h .carries)))
@@ -134,7 +91,7 @@ module _ (t : Table) (a : Almost t) (u : ℕ) (place : u < units) where
               core = k;
               small = h;
               live = two-stage (c .state) (f .two) .live;
-              own = sym (f .ticket ∙ eqb-true (c .carried .0) (c .own .0) e);
+              own = sym (f .shows .ticket ∙ eqb-true (c .carried .0) (c .own .0) e);
               how = inl refl;
             }
 
@@ -147,7 +104,7 @@ module _ (t : Table) (a : Almost t) (u : ℕ) (place : u < units) where
               core = j .0;
               small = j .1;
               live = unserved-live (coreOf t (j .0) .state) (l .unserved);
-              own = l .own ∙ sym (f .ticket);
+              own = l .own ∙ sym (f .shows .ticket);
               how = inr (record { two = f .two; second = sym (f .unit); lends = l });
             }
 

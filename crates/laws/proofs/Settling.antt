@@ -3,7 +3,7 @@
 use mathlib.Core.List.{[]}
 use Prim.Native.Nat.{ℕ, _+_, _≤_, _<_}
 use mathlib.Core.Bool.{Bool, true, false, cond, _&&_, _||_, not}
-use mathlib.Core.Logic.{_⊎_, inl, inr, _≢_}
+use mathlib.Core.Logic.{_⊎_, inl, inr, ⊎-elim, _≢_}
 use mathlib.Core.Path.{_≡_, refl, sym, _∙_, ap, subst}
 use native.Mathlib.Nat.{le-antisymm, not-suc-le-zero}
 use native.Mathlib.Omega.{arith}
@@ -15,34 +15,25 @@ use Rattle.parts.specs.State.{stands, twoStage, holdsFirst, holdsBoth}
 use Rattle.parts.specs.Parts.{cores, units, flagged, registerIn}
 use Rattle.block.specs.Table.{coreOf, unitOf, registerOf, withRegister}
 use Rattle.block.specs.Settle.{Settling, settleAt, settleNext, settle}
-use Rattle.plan.specs.Settle.{flags, inLine}
+use Rattle.settling.specs.Line.{flags, inLine}
 use Rattle.block.specs.Sound as S
 use Rattle.block.specs.Parts.{Sound}
-use Rattle.block.specs.Touched.{Calm}
+use Rattle.block.proofs.Touched.{Calm}
 use Rattle.parts.specs.declared.kinds.Register.{Register}
 use Rattle.parts.specs.declared.kinds.LockUnit.{LockUnit}
 use Rattle.parts.specs.declared.kinds.Core.{Core}
 use Rattle.block.specs.declared.table.Table.{Table}
-use Rattle.parts.proofs.Bools.{and-left, and-right, and-both, not-true-false, flipped, clash}
+use Rattle.parts.proofs.Bools.{and-left, and-both, flipped, clash}
 use Rattle.parts.proofs.Folds.{some-at, at-some, none-some, some-none, count-change, count-some, none-count}
-use Rattle.block.proofs.Access.{Shaped, same-or-not, unit-other, register-same, register-core, register-unit, shaped-register}
+use Rattle.block.proofs.Access.{Shaped, unit-other, register-same, register-core, register-unit, shaped-register}
+use Rattle.parts.proofs.Along.{same-or-not, to-last, along}
 use Rattle.laws.proofs.Almost.{Almost}
-use Rattle.block.proofs.Along.{to-last, along}
-use Rattle.block.proofs.Picking.{nobody-next}
+use Rattle.laws.proofs.Agreeing.{flag-at, in-line}
+use Rattle.settling.proofs.Picking.{nobody-next}
+use Rattle.block.proofs.Standing.{blank-is}
 use Rattle.block.proofs.Touching.{by-settling, settleAt-unit}
 
 -- A register that gets its flag
-
-in-line : (r : Register) → inLine r ≡ true → (r .valid ≡ true) × (r .flag ≡ false)
-in-line r e = (and-left (r .valid) (not (r .flag)) e, not-true-false (r .flag) (and-right (r .valid) (not (r .flag)) e))
-
-blank-clear : (r : Register) → S.isBlank r ≡ true → (r .valid ≡ false) × (r .flag ≡ false)
-blank-clear r e =
-    let a = eqb (r .ticket .0) 0 in
-    let b = not (r .valid) in (
-      not-true-false (r .valid) (and-right a b (and-left (a && b) (not (r .flag)) e)),
-      not-true-false (r .flag) (and-right (a && b) (not (r .flag)) e),
-    )
 
 -- to agree with a core is to show a ticket or to be blank
 agreement :
@@ -65,14 +56,10 @@ module _ (c : Core) (u : ℕ) (r : Register) where
   flagged-agrees v =
       agreement c u (λ (p : Register → Bool). p r ≡ true → p (flagged r) ≡ true)
       (λ n held e. and-both (and-left (r .valid && eqb (r .ticket .0) (n .0)) (r .flag || not held) e) refl)
-      (λ e. absurd (clash v (blank-clear r e .0)))
+      (λ e. absurd (clash v (ap (λ (z : Register). z .valid) (blank-is r e))))
 
   flag-valid : r .flag ≡ true → S.agrees c u r ≡ true → r .valid ≡ true
-  flag-valid f =
-      agreement c u (λ (p : Register → Bool). p r ≡ true → r .valid ≡ true)
-      (λ n held e.
-      and-left (r .valid) (eqb (r .ticket .0) (n .0)) (and-left (r .valid && eqb (r .ticket .0) (n .0)) (r .flag || not held) e))
-      (λ e. absurd (clash f (blank-clear r e .1)))
+  flag-valid f agrees = ⊎-elim (λ a. a .shows .valid) (λ a. a .shows .valid) (flag-at c u r agrees f)
 
 -- One unit
 

@@ -1,6 +1,6 @@
 -- The idle versions that document 01 shuts out, each by a step that they would answer wrongly: one that refuses every step, one with
 -- a single answer, one that returns the table untouched, and one that works the first step and invents the rest.
-use Prim.Native.Nat.{_+_, _≤_}
+use Prim.Native.Nat.{ℕ, _+_, _≤_}
 use mathlib.Core.Bool.{true, false, _&&_}
 use mathlib.Core.List.{[], _∷_}
 use mathlib.Core.Path.{_≡_, refl, _∙_, ap}
@@ -15,22 +15,25 @@ use Rattle.parts.specs.Range.{inRange, perClass}
 use Rattle.building.specs.Build.{fresh}
 use Rattle.parts.specs.Answer.{numberOf}
 use Rattle.parts.specs.Fold.{upTo}
-use Rattle.agreement.specs.Agreement.{unitSound}
+use Rattle.soundness.specs.Agreement.{unitSound}
 use Rattle.soundness.specs.Sound.{coreSound}
+use Rattle.block.specs.Table.{coreOf}
 use Rattle.block.specs.Sound.{sound}
-use Rattle.block.specs.Verdict.{mayRequest, answered, noCore, noUnit, stretched, old}
-use Rattle.block.specs.Steps.{requested, onSound, step}
+use Rattle.refusals.specs.Judge.{noCore, noUnit, old, stretched}
+use Rattle.block.specs.Steps.{onSound, step, performed, verdict}
+use Rattle.block.specs.Over.{over}
 use Rattle.laws.specs.Shown.{shown}
 use Rattle.parts.specs.declared.kinds.Counts.{Counts}
 use Rattle.block.specs.declared.table.Table.{Table}
 use Rattle.parts.specs.declared.answer.Step.{Step}
 use Rattle.parts.specs.declared.answer.Step.the-variants.{R, N, P, I, C, L}
 use Rattle.block.specs.declared.stepped.Stepped.{Stepped}
-use Rattle.refusals.specs.declared.verdict.Verdict.{Verdict}
 use Rattle.refusals.specs.declared.verdict.Verdict.the-variants.{Allowed}
 use Rattle.parts.proofs.Bools.{and-left, and-right}
 use Rattle.parts.proofs.Folds.{none-some}
+use Rattle.parts.proofs.Ranging.{cores-few}
 use Rattle.laws.proofs.Settling.{settle-same}
+use Rattle.laws.proofs.Granting.{accepted}
 use Rattle.laws.proofs.Keeping.{core-fresh, fresh-sound}
 
 -- a good header has a core and a first-class unit
@@ -60,28 +63,27 @@ module _ (c : Counts) (n : Ticket) (good : inRange c ≡ true) where
   unfolding step
   on-fresh s = simp (fresh-sound c n good)
 
-  first-core : noCore t (coreNo 0) ≡ false
+  first-core : noCore c (coreNo 0) ≡ false
   first-core = lt-leb (c .cores) 0 (some-core c good .0)
 
-  first-unit : noUnit t (unitNo 0) ≡ false
+  first-unit : noUnit c (unitNo 0) ≡ false
   first-unit = lt-leb (c .first + c .second) 0 (omega (arith, some-core c good .1))
 
-  nobody-old : stretched t ≡ false
-  nobody-old = none-some (old t) cores (λ k h. simp (core-fresh c n k h))
+  nobody-old : stretched (t .counter) (t .cores) (t .counts .cores) ≡ false
+  nobody-old = none-some (λ (k : ℕ). old n (coreOf t k)) (c .cores) (λ k h. simp (core-fresh c n k (omega (arith, cores-few c good))))
 
-  allowed : mayRequest t (coreNo 0) (unitNo 0) ≡ Allowed
+  allowed : verdict t R00 ≡ Allowed
   allowed = simp (first-core, first-unit, nobody-old)
 
   -- the request is done, with the counter for its ticket
-  request : onSound t R00 ≡ requested t 0 (unitNo 0)
-  unfolding onSound
-  request = ap (λ (v : Verdict). answered t v (requested t 0 (unitNo 0))) allowed
+  request : step t R00 ≡ performed t R00
+  request = on-fresh R00 ∙ accepted t R00 allowed
 
   pub not-refusing : numberOf (step t R00 .answer) ≡ 0
-  not-refusing = ap (λ (x : Stepped). numberOf (x .answer)) (on-fresh R00 ∙ request)
+  not-refusing = ap (λ (x : Stepped). numberOf (x .answer)) request
 
   pub request-ticket : step t R00 .ticket ≡ n
-  request-ticket = ap (λ (x : Stepped). x .ticket) (on-fresh R00 ∙ request)
+  request-ticket = ap (λ (x : Stepped). x .ticket) request
 
   -- and a poll of the same core, which waits nowhere, is refused with 12
   pub not-single : numberOf (step t P0 .answer) ≡ 12
@@ -90,7 +92,7 @@ module _ (c : Counts) (n : Ticket) (good : inRange c ≡ true) where
 
   -- the request moves the counter
   pub not-untouched : step t R00 .table .counter ≡ ticket (after (n .0))
-  not-untouched = ap (λ (x : Stepped). x .table .counter) (on-fresh R00 ∙ request) ∙ settle-same _ .2
+  not-untouched = ap (λ (x : Stepped). x .table .counter) request ∙ settle-same _ .2
 
 -- the run of document 01, every step of it
 pub not-inventing :
@@ -123,5 +125,5 @@ pub not-inventing :
     (1 ∷ 0 ∷ []) ∷
     (0 ∷ 1 ∷ 0 ∷ 2 ∷ []) ∷
     []
-unfolding behind topBit after upTo coreSound unitSound sound onSound step shown
+unfolding behind topBit after upTo coreSound unitSound sound onSound step over
 not-inventing = refl

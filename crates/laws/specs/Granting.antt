@@ -10,11 +10,11 @@ use Rattle.ticket.specs.declared.kinds.Ticket.{Ticket}
 use Rattle.parts.specs.Fold.{some}
 use Rattle.parts.specs.Parts.{cores, units, registerIn}
 use Rattle.block.specs.Table.{unitOf, unitCount}
-use Rattle.plan.specs.Settle.{flags, inLine, next}
+use Rattle.settling.specs.Line.{flags, inLine, next}
 use Rattle.parts.specs.declared.kinds.LockUnit.{LockUnit}
 use Rattle.block.specs.declared.table.Table.{Table}
-use Rattle.plan.specs.declared.settle.Best.{Best}
-use Rattle.plan.specs.declared.settle.Best.the-variants.{Nobody, Core}
+use Rattle.settling.specs.declared.line.Best.{Best}
+use Rattle.settling.specs.declared.line.Best.the-variants.{Nobody, Won}
 use Rattle.parts.specs.declared.answer.Grants.{Grants}
 use Rattle.parts.specs.declared.answer.Grants.the-variants.{None, One, Two}
 
@@ -42,7 +42,7 @@ winner x = cond (eqb (flags x) 0) (next x) Nobody
 pub record Due (x : LockUnit) (k : CoreNo) : Type 0 where
   pub free : flags x ≡ 0
   pub ticket : Ticket
-  pub oldest : next x ≡ Core k ticket
+  pub oldest : next x ≡ Won k ticket
 
 -- the grant is of a unit in the table, and due there
 pub record DueIn (t : Table) (g : Grant) : Type 0 where

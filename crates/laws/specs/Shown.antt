@@ -3,6 +3,7 @@ use Prim.Native.Nat.{ℕ}
 use mathlib.Core.List.{List, [], _∷_}
 use Rattle.parts.specs.Answer.{numberOf}
 use Rattle.block.specs.Steps.{step}
+use Rattle.block.specs.Over.{over}
 use Rattle.block.specs.declared.table.Table.{Table}
 use Rattle.parts.specs.declared.answer.Step.{Step}
 use Rattle.parts.specs.declared.answer.Grants.{Grants}
@@ -17,6 +18,5 @@ grantFields (Two g h) = g .unit .0 ∷ g .core .0 ∷ h .unit .0 ∷ h .core .0 
 abbrev pub fields : Stepped → List ℕ
 fields x = numberOf (x .answer) ∷ x .ticket .0 ∷ grantFields (x .grants)
 
-unfoldable pub shown : Table → List Step → List (List ℕ)
-shown t [] = []
-shown t (s ∷ more) = let x = step t s in fields x ∷ shown (x .table) more
+abbrev pub shown : Table → List Step → List (List ℕ)
+shown t steps = over (λ q s. step q s .table) (λ q. []) (λ q s later. fields (step q s) ∷ later) t steps

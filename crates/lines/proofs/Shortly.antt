@@ -9,6 +9,9 @@ use native.Mathlib.Omega.{arith}
 use borrow.Author.Tests.{eqb-true, eqb-false, ltb-false, ne-eqb, lt-leb, le-leb, leb-true}
 use lib.Dec.{eqb, leb, ltb}
 use lib.ListN.{length, getD, take, drop}
+use Rattle.ticket.specs.declared.kinds.CoreNo.{CoreNo}
+use Rattle.ticket.specs.declared.kinds.UnitNo.{UnitNo}
+use Rattle.parts.specs.Parts.{coreNo, unitNo}
 use Rattle.parts.proofs.Bools.{and-left, and-right}
 use Rattle.numbers.specs.Bytes.{tab, end}
 use Rattle.lines.specs.Bytes.{lineMost}
@@ -122,8 +125,8 @@ module _ (s : List ℕ) (at : ℕ) (h : at < length s) where
 
 -- what a short line is read as
 abbrev pub AsShort : List ℕ → ℕ → Short → Type 0
-AsShort s at (One l k) = readStep s at ≡ stepLine (oneNumber l k) (at + 4)
-AsShort s at (Two l k u) = readStep s at ≡ stepLine (twoNumbers l k u) (at + 6)
+AsShort s at (One l k) = readStep s at ≡ stepLine (oneNumber l (k .0)) (at + 4)
+AsShort s at (Two l k u) = readStep s at ≡ stepLine (twoNumbers l (k .0) (u .0)) (at + 6)
 AsShort s at Other = Unit
 
 -- where six bytes are left: the tests of `shortLine`, one after another
@@ -152,7 +155,7 @@ module _ (s : List ℕ) (at : ℕ) (h : 6 ≤ length s - at) where
     by-second :
         (b : Bool) →
         (eqb (byte 3) tab && digit (byte 4) && eqb (byte 5) end) ≡ b →
-        AsShort s at (cond b (Two (getD s at 0) (byte 2 - 48) (byte 4 - 48)) Other)
+        AsShort s at (cond b (Two (getD s at 0) (coreNo (byte 2 - 48)) (unitNo (byte 4 - 48))) Other)
     by-second true e =
         let p = and-left (eqb (byte 3) tab && digit (byte 4)) (eqb (byte 5) end) e in
         let t : byte 3 ≡ tab = eqb-true (byte 3) tab (and-left (eqb (byte 3) tab) (digit (byte 4)) p) in
@@ -161,7 +164,7 @@ module _ (s : List ℕ) (at : ℕ) (h : 6 ≤ length s - at) where
         reads-two s at (omega arith) (getD s at 0) (byte 2) (drop (at + 6) s) core (byte 4) u (six ∙ rw (tabs, t, n))
     by-second false e = tt
 
-    by-end : (b : Bool) → eqb (byte 3) end ≡ b → AsShort s at (cond b (One (getD s at 0) (byte 2 - 48)) (shortTwo s at (byte 2 - 48)))
+    by-end : (b : Bool) → eqb (byte 3) end ≡ b → AsShort s at (cond b (One (getD s at 0) (coreNo (byte 2 - 48))) (shortTwo s at (byte 2 - 48)))
     by-end true e =
         let n : byte 3 ≡ end = eqb-true (byte 3) end e in
         reads-one s at (omega arith) (getD s at 0) (byte 2) (drop (at + 4) s) core (four ∙ rw (tabs, n))
@@ -170,7 +173,7 @@ module _ (s : List ℕ) (at : ℕ) (h : 6 ≤ length s - at) where
   by-first :
       (b : Bool) →
       (eqb (byte 1) tab && digit (byte 2)) ≡ b →
-      AsShort s at (cond b (cond (eqb (byte 3) end) (One (getD s at 0) (byte 2 - 48)) (shortTwo s at (byte 2 - 48))) Other)
+      AsShort s at (cond b (cond (eqb (byte 3) end) (One (getD s at 0) (coreNo (byte 2 - 48))) (shortTwo s at (byte 2 - 48))) Other)
   by-first true e = by-end e (eqb (byte 3) end) refl
   by-first false e = tt
 
@@ -181,8 +184,8 @@ short-reads s at = go (ltb (length s - at) 6) refl
     go true e = tt
     go false e = by-first s at (ltb-false (length s - at) 6 e) (eqb (getD s (at + 1) 0) tab && digit (getD s (at + 2) 0)) refl
 
-pub short-one : (s : List ℕ) (at l k : ℕ) → shortLine s at ≡ One l k → readStep s at ≡ stepLine (oneNumber l k) (at + 4)
+pub short-one : (s : List ℕ) (at l : ℕ) (k : CoreNo) → shortLine s at ≡ One l k → readStep s at ≡ stepLine (oneNumber l (k .0)) (at + 4)
 short-one s at l k e = subst (AsShort s at) e (short-reads s at)
 
-pub short-two : (s : List ℕ) (at l k u : ℕ) → shortLine s at ≡ Two l k u → readStep s at ≡ stepLine (twoNumbers l k u) (at + 6)
+pub short-two : (s : List ℕ) (at l : ℕ) (k : CoreNo) (u : UnitNo) → shortLine s at ≡ Two l k u → readStep s at ≡ stepLine (twoNumbers l (k .0) (u .0)) (at + 6)
 short-two s at l k u e = subst (AsShort s at) e (short-reads s at)

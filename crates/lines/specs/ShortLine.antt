@@ -4,6 +4,7 @@ use mathlib.Core.Bool.{Bool, cond, _&&_}
 use mathlib.Core.List.{List}
 use lib.Dec.{eqb, leb, ltb}
 use lib.ListN.{length, getD}
+use Rattle.parts.specs.Parts.{coreNo, unitNo}
 use Rattle.numbers.specs.Bytes.{tab, end}
 use Rattle.lines.specs.declared.reading.Short.{Short}
 use Rattle.lines.specs.declared.reading.Short.the-variants.{One, Two, Other}
@@ -16,7 +17,7 @@ digit b = leb 48 b && leb b 57
 abbrev pub shortTwo : List ℕ → ℕ → ℕ → Short
 shortTwo s at k =
     let u : ℕ = getD s (at + 4) 0 in
-    cond (eqb (getD s (at + 3) 0) tab && digit u && eqb (getD s (at + 5) 0) end) (Two (getD s at 0) k (u - 48)) Other
+    cond (eqb (getD s (at + 3) 0) tab && digit u && eqb (getD s (at + 5) 0) end) (Two (getD s at 0) (coreNo k) (unitNo (u - 48))) Other
 
 -- the letter, a tab, and a number of one digit
 abbrev pub shortOne : List ℕ → ℕ → Short
@@ -24,7 +25,7 @@ shortOne s at =
     let k : ℕ = getD s (at + 2) 0 in
     cond
     (eqb (getD s (at + 1) 0) tab && digit k)
-    (cond (eqb (getD s (at + 3) 0) end) (One (getD s at 0) (k - 48)) (shortTwo s at (k - 48)))
+    (cond (eqb (getD s (at + 3) 0) end) (One (getD s at 0) (coreNo (k - 48))) (shortTwo s at (k - 48)))
     Other
 
 -- what a line is, if six bytes or more are left

@@ -55,47 +55,47 @@ pub fn line_end(s: &[u8], at: usize) -> Ending
 }
 
 // A letter with one number.
-fn one_number(letter: u8, k: u16) -> Parsed
-    ensures { λ r. ⌜ r ≡ oneNumber letter k ⌝ }
+fn one_number(letter: u8, k: CoreNo) -> Parsed
+    ensures { λ r. ⌜ r ≡ oneNumber letter (k .0) ⌝ }
 {
     if letter == b'P' {
-        return Parsed::Good(Step::P(CoreNo(k)));
+        return Parsed::Good(Step::P(k));
     }
     if letter < b'L' {
         if letter == b'C' {
-            Parsed::Good(Step::C(CoreNo(k)))
+            Parsed::Good(Step::C(k))
         } else if letter == b'I' {
-            Parsed::Good(Step::I(CoreNo(k)))
+            Parsed::Good(Step::I(k))
         } else {
             Parsed::Not
         }
     } else if letter == b'L' {
-        Parsed::Good(Step::L(CoreNo(k)))
+        Parsed::Good(Step::L(k))
     } else {
         Parsed::Not
     }
 }
 
 // A letter with two numbers.
-fn two_numbers(letter: u8, k: u16, u: u16) -> Parsed
-    ensures { λ r. ⌜ r ≡ twoNumbers letter k u ⌝ }
+fn two_numbers(letter: u8, k: CoreNo, u: UnitNo) -> Parsed
+    ensures { λ r. ⌜ r ≡ twoNumbers letter (k .0) (u .0) ⌝ }
 {
     if letter == b'R' {
-        Parsed::Good(Step::R(CoreNo(k), UnitNo(u)))
+        Parsed::Good(Step::R(k, u))
     } else if letter == b'N' {
-        Parsed::Good(Step::N(CoreNo(k), UnitNo(u)))
+        Parsed::Good(Step::N(k, u))
     } else {
         Parsed::Not
     }
 }
 
 // The core's number is read; f is the field after it.
-fn after_core(letter: u8, k: u16, f: Field) -> Parsed
-    ensures { λ r. ⌜ r ≡ afterCore letter k f ⌝ }
+fn after_core(letter: u8, k: CoreNo, f: Field) -> Parsed
+    ensures { λ r. ⌜ r ≡ afterCore letter (k .0) f ⌝ }
 {
     match f {
         Field::Bad => Parsed::Not,
-        Field::Last(u) => two_numbers(letter, k, u),
+        Field::Last(u) => two_numbers(letter, k, UnitNo(u)),
         Field::Then(_, _) => Parsed::Not,
     }
 }
@@ -106,8 +106,8 @@ fn after_letter(s: &[u8], letter: u8, f: Field) -> Parsed
 {
     match f {
         Field::Bad => Parsed::Not,
-        Field::Last(k) => one_number(letter, k),
-        Field::Then(k, i) => after_core(letter, k, read_field(s, i)),
+        Field::Last(k) => one_number(letter, CoreNo(k)),
+        Field::Then(k, i) => after_core(letter, CoreNo(k), read_field(s, i)),
     }
 }
 
@@ -127,8 +127,8 @@ fn parse_step(s: &[u8]) -> Parsed
 
 // A step line whose numbers have one digit each: its letter and its numbers. Or some other line.
 enum Short {
-    One(u8, u16),
-    Two(u8, u16, u16),
+    One(u8, CoreNo),
+    Two(u8, CoreNo, UnitNo),
     Other,
 }
 
@@ -153,11 +153,11 @@ fn short_line(s: &[u8], at: usize) -> Short
     }
     let e = s[at + 3];
     if e == 10 {
-        return Short::One(s[at], (d - 48) as u16);
+        return Short::One(s[at], CoreNo((d - 48) as u16));
     }
     let f = s[at + 4];
     if (e == 9) & digit(f) & (s[at + 5] == 10) {
-        return Short::Two(s[at], (d - 48) as u16, (f - 48) as u16);
+        return Short::Two(s[at], CoreNo((d - 48) as u16), UnitNo((f - 48) as u16));
     }
     Short::Other
 }

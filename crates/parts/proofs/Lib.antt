@@ -3,3 +3,4 @@ pub mod Folds
 pub mod Loops
 pub mod Ranging
 pub mod Determined
+pub mod Along

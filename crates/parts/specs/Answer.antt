@@ -1,11 +1,23 @@
--- "Numbers the answers carry", and the grants of a step.
+-- The core that a step names; "Numbers the answers carry"; the grants of a step.
 use Prim.Native.Nat.{ℕ}
 use mathlib.Core.List.{List, [], _∷_}
+use Rattle.ticket.specs.declared.kinds.CoreNo.{CoreNo}
 use Rattle.ticket.specs.declared.kinds.Grant.{Grant}
 use Rattle.parts.specs.declared.answer.Answer.{Answer}
 use Rattle.parts.specs.declared.answer.Answer.the-variants.{Done, Granted, NotYet, NoCore, NoUnit, WrongState, WrongClass, Masked, Stretched, Unsound, OutOfRange}
+use Rattle.parts.specs.declared.answer.Step.{Step}
+use Rattle.parts.specs.declared.answer.Step.the-variants.{R, N, P, I, C, L}
 use Rattle.parts.specs.declared.answer.Grants.{Grants}
 use Rattle.parts.specs.declared.answer.Grants.the-variants.{None, One, Two}
+
+-- the core that a step names
+abbrev pub whose : Step → CoreNo
+whose (R k u) = k
+whose (N k u) = k
+whose (P k) = k
+whose (I k) = k
+whose (C k) = k
+whose (L k) = k
 
 abbrev pub numberOf : Answer → ℕ
 numberOf Done = 0

@@ -2,7 +2,7 @@
 use mathlib.Core.List.{[]}
 use Prim.Native.Nat.{ℕ}
 use mathlib.Core.Bool.{true, false}
-use lib.ListN.{getD}
+use lib.ListN.{getD, set, replicate}
 use Rattle.ticket.specs.Kinds.{ticket}
 use Rattle.ticket.specs.declared.kinds.CoreNo.{CoreNo}
 use Rattle.ticket.specs.declared.kinds.Ticket.{Ticket}
@@ -46,8 +46,17 @@ idle = record { own = ticket 0; carried = ticket 0; first = unitNo 0; second = u
 abbrev pub core : Ticket → Ticket → UnitNo → UnitNo → State → Core
 core o n f s z = record { own = o; carried = n; first = f; second = s; state = z; fill = Blank }
 
-abbrev pub noUnit : LockUnit
-noUnit = record { registers = [] }
+-- what stands past the array of units
+abbrev pub absentUnit : LockUnit
+absentUnit = record { registers = [] }
+
+-- no register valid, no flag set
+abbrev pub emptyUnit : LockUnit
+emptyUnit = record { registers = replicate cores blank }
 
 abbrev pub registerIn : LockUnit → ℕ → Register
 registerIn x k = getD (x .registers) k blank
+
+-- the unit in which the register of core k became r
+abbrev pub registered : LockUnit → ℕ → Register → LockUnit
+registered x k r = record { registers = set (x .registers) k r }

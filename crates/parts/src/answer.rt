@@ -3,7 +3,7 @@ use ticket::CoreNo;
 use ticket::Grant;
 use ticket::UnitNo;
 ghost use mathlib.Core.Path.{_≡_};
-ghost use Rattle.parts.specs.Answer.{numberOf};
+ghost use Rattle.parts.specs.Answer.{whose, numberOf};
 
 // A step of a script, by its letter.
 pub enum Step {
@@ -52,6 +52,20 @@ pub enum Grants {
     None,
     One(Grant),
     Two(Grant, Grant),
+}
+
+// The core that a step names.
+pub fn whose(s: Step) -> CoreNo
+    ensures { λ r. ⌜ r ≡ whose s ⌝ }
+{
+    match s {
+        Step::R(k, _) => k,
+        Step::N(k, _) => k,
+        Step::P(k) => k,
+        Step::I(k) => k,
+        Step::C(k) => k,
+        Step::L(k) => k,
+    }
 }
 
 // The number that document 01 gives an answer.

@@ -4,11 +4,11 @@
 // copied in blocks.
 use ticket::Ticket;
 use ticket::UnitNo;
-ghost use mathlib.Core.Path.{_≡_};
-ghost use Rattle.parts.specs.Parts.{idle, blank};
 
-// The greatest number of cores, and of units: eight of each class.
+// The greatest number of cores, of units of one class, and of units.
 pub const CORES: usize = 8;
+
+pub const PER_CLASS: usize = 8;
 
 pub const UNITS: usize = 16;
 
@@ -62,29 +62,4 @@ pub struct Counts {
     pub cores: u16,
     pub first: u16,
     pub second: u16,
-}
-
-// A register that nobody stands in.
-pub fn blank() -> Register
-    ensures { λ r. ⌜ r ≡ blank ⌝ }
-{
-    Register {
-        ticket: Ticket(0),
-        valid: false,
-        flag: false,
-    }
-}
-
-// A core without a ticket.
-pub fn idle() -> Core
-    ensures { λ r. ⌜ r ≡ idle ⌝ }
-{
-    Core {
-        own: Ticket(0),
-        carried: Ticket(0),
-        first: UnitNo(0),
-        second: UnitNo(0),
-        state: State::Idle,
-        fill: Fill::Blank,
-    }
 }

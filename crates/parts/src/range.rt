@@ -1,5 +1,7 @@
 // Counts in range.
+use crate::kinds::CORES;
 use crate::kinds::Counts;
+use crate::kinds::PER_CLASS;
 ghost use mathlib.Core.Path.{_≡_};
 ghost use Rattle.parts.specs.Range.{inRange};
 
@@ -7,5 +9,8 @@ ghost use Rattle.parts.specs.Range.{inRange};
 pub fn in_range(c: Counts) -> bool
     ensures { λ r. ⌜ r ≡ inRange c ⌝ }
 {
-    (1 <= c.cores) & (c.cores <= 8) & (1 <= c.first) & (c.first <= 8) & (c.second <= 8)
+    let cores = c.cores as usize;
+    let first = c.first as usize;
+    let second = c.second as usize;
+    (1 <= cores) & (cores <= CORES) & (1 <= first) & (first <= PER_CLASS) & (second <= PER_CLASS)
 }

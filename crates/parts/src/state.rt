@@ -1,7 +1,7 @@
-// What a state says of its core.
+// What a state says of its core: four tests tell the states apart, the others follow from them.
 use crate::kinds::State;
 ghost use mathlib.Core.Path.{_≡_};
-ghost use Rattle.parts.specs.State.{isIdle, twoStage};
+ghost use Rattle.parts.specs.State.{isIdle, waits, twoStage, isAway, stands, holds, holdsOne, holdsBoth, holdsFirst, unserved};
 
 // No ticket.
 pub fn is_idle(s: State) -> bool
@@ -12,6 +12,20 @@ pub fn is_idle(s: State) -> bool
         State::Waiting => false,
         State::Holding => false,
         State::WaitingSecond => false,
+        State::HoldingBoth => false,
+        State::Away => false,
+    }
+}
+
+// Waiting, at either stage.
+pub fn waits(s: State) -> bool
+    ensures { λ r. ⌜ r ≡ waits s ⌝ }
+{
+    match s {
+        State::Idle => false,
+        State::Waiting => true,
+        State::Holding => false,
+        State::WaitingSecond => true,
         State::HoldingBoth => false,
         State::Away => false,
     }
@@ -29,4 +43,60 @@ pub fn two_stage(s: State) -> bool
         State::HoldingBoth => true,
         State::Away => false,
     }
+}
+
+// In a handler.
+pub fn is_away(s: State) -> bool
+    ensures { λ r. ⌜ r ≡ isAway s ⌝ }
+{
+    match s {
+        State::Idle => false,
+        State::Waiting => false,
+        State::Holding => false,
+        State::WaitingSecond => false,
+        State::HoldingBoth => false,
+        State::Away => true,
+    }
+}
+
+// Standing at the first unit, waiting or holding.
+pub fn stands(s: State) -> bool
+    ensures { λ r. ⌜ r ≡ stands s ⌝ }
+{
+    !is_idle(s) & !is_away(s)
+}
+
+// Holding one or both, and not waiting.
+pub fn holds(s: State) -> bool
+    ensures { λ r. ⌜ r ≡ holds s ⌝ }
+{
+    stands(s) & !waits(s)
+}
+
+// Holding one unit and not waiting.
+pub fn holds_one(s: State) -> bool
+    ensures { λ r. ⌜ r ≡ holdsOne s ⌝ }
+{
+    holds(s) & !two_stage(s)
+}
+
+// Holding both.
+pub fn holds_both(s: State) -> bool
+    ensures { λ r. ⌜ r ≡ holdsBoth s ⌝ }
+{
+    holds(s) & two_stage(s)
+}
+
+// Holding the first unit, whatever of the second.
+pub fn holds_first(s: State) -> bool
+    ensures { λ r. ⌜ r ≡ holdsFirst s ⌝ }
+{
+    two_stage(s) | holds(s)
+}
+
+// Waiting for the first unit, or away from it.
+pub fn unserved(s: State) -> bool
+    ensures { λ r. ⌜ r ≡ unserved s ⌝ }
+{
+    is_away(s) | (waits(s) & !two_stage(s))
 }

@@ -1,64 +1,55 @@
--- Places: a number of an array is its own place, and every place is within its array.
-use Prim.Native.Nat.{ℕ, _<_, _≤_}
+-- Places: a core or unit of an array is its own place, and every place is within its array.
+use Prim.Native.Nat.{ℕ, _<_}
 use mathlib.Core.Bool.{Bool, true, false, cond}
-use mathlib.Core.Path.{_≡_, refl, sym, _∙_, ap}
+use mathlib.Core.Path.{_≡_, refl, ap}
 use native.Mathlib.Omega.{arith}
 use lib.Dec.{ltb}
-use borrow.Author.Tests.{lt-ltb, ltb-true, le-ltb}
+use borrow.Author.Tests.{lt-ltb, ltb-true}
+use Rattle.ticket.specs.declared.kinds.CoreNo.{CoreNo}
+use Rattle.ticket.specs.declared.kinds.UnitNo.{UnitNo}
 use Rattle.parts.specs.Parts.{cores, units}
+use Rattle.parts.specs.Answer.{whose}
 use Rattle.parts.specs.State.{twoStage}
-use Rattle.places.specs.Places.{Placed, inUnits, corePlace, unitPlace, otherPlace, flagsOf}
+use Rattle.places.specs.Places.{inCores, inUnits, corePlace, unitPlace, otherPlace}
 use Rattle.parts.specs.declared.kinds.Core.{Core}
-use Rattle.parts.specs.declared.answer.Grants.{Grants}
-use Rattle.parts.specs.declared.answer.Grants.the-variants.{None, One, Two}
 use Rattle.parts.specs.declared.answer.Step.{Step}
 use Rattle.parts.specs.declared.answer.Step.the-variants.{R, N, P, I, C, L}
 
--- a number of an array is its own place
-pub itself : (n k : ℕ) → k < n → cond (ltb k n) k 0 ≡ k
-itself n k h = ap (λ (b : Bool). cond b k 0) (lt-ltb k n h)
+-- of either kind of number: a is read as `number a`, and z has the number 0
+module _ {A : Type 0} (number : A → ℕ) (z a : A) (n : ℕ) where
+  itself : number a < n → cond (ltb (number a) n) a z ≡ a
+  itself h = ap (λ (b : Bool). cond b a z) (lt-ltb (number a) n h)
 
--- every place is within its array
-pub within : (n k : ℕ) → 0 < n → cond (ltb k n) k 0 < n
-within n k h = go (ltb k n) refl
-  where
-    go : (b : Bool) → ltb k n ≡ b → cond b k 0 < n
-    go true e = ltb-true k n e
-    go false e = h
+  within : number z < n → number (cond (ltb (number a) n) a z) < n
+  within h = go (ltb (number a) n) refl
+    where
+      go : (b : Bool) → ltb (number a) n ≡ b → number (cond b a z) < n
+      go true e = ltb-true (number a) n e
+      go false e = h
 
-pub core-place-within : (s : Step) → corePlace s < cores
-core-place-within (R k u) = within cores (k .0) (omega arith)
-core-place-within (N k u) = within cores (k .0) (omega arith)
-core-place-within (P k) = within cores (k .0) (omega arith)
-core-place-within (I k) = within cores (k .0) (omega arith)
-core-place-within (C k) = within cores (k .0) (omega arith)
-core-place-within (L k) = within cores (k .0) (omega arith)
+pub core-itself : (k : CoreNo) → k .0 < cores → inCores k ≡ k
+core-itself k = itself (λ (j : CoreNo). j .0) (record { 0 = 0 }) k cores
 
-pub unit-place-within : (s : Step) (c : Core) → unitPlace s c < units
-unit-place-within (R k u) c = within units (u .0) (omega arith)
-unit-place-within (N k u) c = within units (u .0) (omega arith)
-unit-place-within (P k) c = within units (c .first .0) (omega arith)
-unit-place-within (I k) c = within units (c .first .0) (omega arith)
-unit-place-within (C k) c = within units (c .first .0) (omega arith)
-unit-place-within (L k) c = within units (c .first .0) (omega arith)
+pub unit-itself : (u : UnitNo) → u .0 < units → inUnits u ≡ u
+unit-itself u = itself (λ (v : UnitNo). v .0) (record { 0 = 0 }) u units
 
-pub other-place-within : (s : Step) (c : Core) → otherPlace s c < units
+unit-within : (u : UnitNo) → inUnits u .0 < units
+unit-within u = within (λ (v : UnitNo). v .0) (record { 0 = 0 }) u units (omega arith)
+
+pub core-place-within : (s : Step) → corePlace s .0 < cores
+core-place-within s = within (λ (j : CoreNo). j .0) (record { 0 = 0 }) (whose s) cores (omega arith)
+
+pub unit-place-within : (s : Step) (c : Core) → unitPlace s c .0 < units
+unit-place-within (R k u) c = unit-within u
+unit-place-within (N k u) c = unit-within u
+unit-place-within (P k) c = unit-within (c .first)
+unit-place-within (I k) c = unit-within (c .first)
+unit-place-within (C k) c = unit-within (c .first)
+unit-place-within (L k) c = unit-within (c .first)
+
+pub other-place-within : (s : Step) (c : Core) → otherPlace s c .0 < units
 other-place-within s c = go (twoStage (c .state))
   where
-    go : (b : Bool) → cond b (inUnits (c .second .0)) (unitPlace s c) < units
-    go true = within units (c .second .0) (omega arith)
+    go : (b : Bool) → cond b (inUnits (c .second)) (unitPlace s c) .0 < units
+    go true = unit-within (c .second)
     go false = unit-place-within s c
-
--- places: j is the number k, as a call gave it
-pub placed : (n k j : ℕ) → j ≡ k → j < n → j ≡ cond (ltb k n) k 0
-placed n k j e h = e ∙ sym (ap (λ (b : Bool). cond b k 0) (lt-ltb k n (rw (sym e) h)))
-
-pub past : (n k j : ℕ) → j ≡ k → n ≤ j → 0 ≡ cond (ltb k n) k 0
-past n k j e h = sym (ap (λ (b : Bool). cond b k 0) (le-ltb k n (rw (sym e) h)))
-
--- the flags of grants are at places of the arrays
-pub flags-placed : (g : Grants) → Placed (flagsOf g)
-flags-placed None = tt
-flags-placed (One a) = (within units (a .unit .0) (omega arith), within cores (a .core .0) (omega arith))
-flags-placed (Two a b) =
-    (within units (a .unit .0) (omega arith), within cores (a .core .0) (omega arith), within units (b .unit .0) (omega arith), within cores (b .core .0) (omega arith))

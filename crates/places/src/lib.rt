@@ -1,11 +1,8 @@
-// The places that a step reads and writes: of its core, of the units that it touches, of the flags of its grants.
+// The places that a step reads and writes: of its core, and of the one or two units that it touches.
 //
-// Seams, for a run and for the table's steps: `core_of`, `unit_of`, `other_of`, `flags_of`, `flagged`.
+// Seams, for a run and for the table's steps: `core_place`, `unit_place`, `other_place`.
 mod place;
 
-pub use place::Flags;
-pub use place::core_of;
-pub use place::flagged;
-pub use place::flags_of;
-pub use place::other_of;
-pub use place::unit_of;
+pub use place::core_place;
+pub use place::other_place;
+pub use place::unit_place;

@@ -1,115 +1,63 @@
-// The places that a step reads and writes: of its core, of the units that it touches, of the flags of its
-// grants. A number past an array has the place 0, and is refused.
+// The places that a step reads and writes: of its core, and of the units that it touches. A number past an
+// array has the place 0, and is refused.
 use parts::CORES;
 use parts::Core;
-use parts::Grants;
-use parts::Register;
 use parts::Step;
 use parts::UNITS;
 use parts::two_stage;
+use parts::whose;
+use ticket::CoreNo;
+use ticket::UnitNo;
 ghost use mathlib.Core.Path.{_≡_};
-ghost use Rattle.places.specs.Places.{whose, inCores, corePlace, inUnits, unitPlace, otherPlace, flagsOf};
-ghost use Rattle.parts.specs.Parts.{flagged};
+ghost use Rattle.places.specs.Places.{inCores, corePlace, inUnits, unitPlace, otherPlace};
 
-// Where the flags of grants are: the places of the unit and of the core of each.
-pub enum Flags {
-    None,
-    One(usize, usize),
-    Two(usize, usize, usize, usize),
-}
-
-// The number of the core that a step names.
-fn whose(s: Step) -> u16
-    ensures { λ r. ⌜ r ≡ whose s ⌝ }
-{
-    match s {
-        Step::R(k, _) => k.0,
-        Step::N(k, _) => k.0,
-        Step::P(k) => k.0,
-        Step::I(k) => k.0,
-        Step::C(k) => k.0,
-        Step::L(k) => k.0,
-    }
-}
-
-// The place of a core; past the array, 0.
-fn in_cores(k: u16) -> usize
+// The core itself; past the array, core 0.
+fn in_cores(k: CoreNo) -> CoreNo
     ensures { λ r. ⌜ r ≡ inCores k ⌝ }
 {
-    let i = k as usize;
-    if i < CORES { i } else { 0 }
+    let i = k.0 as usize;
+    if i < CORES { k } else { CoreNo(0) }
 }
 
-// Seam: the place of the core that a step names; past the array, 0.
-pub fn core_of(s: Step) -> usize
+// Seam: the core that a step names; past the array, core 0.
+pub fn core_place(s: Step) -> CoreNo
     ensures { λ r. ⌜ r ≡ corePlace s ⌝ }
 {
     in_cores(whose(s))
 }
 
-// The place of a unit; past the array, 0.
-fn in_units(u: u16) -> usize
+// The unit itself; past the array, unit 0.
+fn in_units(u: UnitNo) -> UnitNo
     ensures { λ r. ⌜ r ≡ inUnits u ⌝ }
 {
-    let i = u as usize;
-    if i < UNITS { i } else { 0 }
+    let i = u.0 as usize;
+    if i < UNITS { u } else { UnitNo(0) }
 }
 
-// Seam: the place of the unit that a step names, or else of the first unit of its core, which is c.
-pub fn unit_of(s: Step, c: Core) -> usize
+// Seam: the unit that a step names, or else the first unit of its core, which is c.
+pub fn unit_place(s: Step, c: Core) -> UnitNo
     ensures { λ r. ⌜ r ≡ unitPlace s c ⌝ }
 {
+    let first = c.first;
     match s {
-        Step::R(_, u) => in_units(u.0),
-        Step::N(_, u) => in_units(u.0),
-        Step::P(_) => in_units(c.first.0),
-        Step::I(_) => in_units(c.first.0),
-        Step::C(_) => in_units(c.first.0),
-        Step::L(_) => in_units(c.first.0),
+        Step::R(_, u) => in_units(u),
+        Step::N(_, u) => in_units(u),
+        Step::P(_) => in_units(first),
+        Step::I(_) => in_units(first),
+        Step::C(_) => in_units(first),
+        Step::L(_) => in_units(first),
     }
 }
 
-// Seam: the place of the core's second unit, if it has one; else the same.
-pub fn other_of(s: Step, c: Core) -> usize
+// Seam: the core's second unit, if it has one; else the same.
+pub fn other_place(s: Step, c: Core) -> UnitNo
     ensures { λ r. ⌜ r ≡ otherPlace s c ⌝ }
 {
     let z = c.state;
+    let second = c.second;
     if two_stage(z) {
-        in_units(c.second.0)
+        in_units(second)
     } else {
-        unit_of(s, c)
-    }
-}
-
-// Seam: where the flags of grants are; past the arrays, 0.
-pub fn flags_of(g: Grants) -> Flags
-    ensures { λ r. ⌜ r ≡ flagsOf g ⌝ }
-{
-    match g {
-        Grants::None => Flags::None,
-        Grants::One(a) => {
-            let u = a.unit;
-            let k = a.core;
-            Flags::One(in_units(u.0), in_cores(k.0))
-        }
-        Grants::Two(a, b) => {
-            let u = a.unit;
-            let k = a.core;
-            let v = b.unit;
-            let j = b.core;
-            Flags::Two(in_units(u.0), in_cores(k.0), in_units(v.0), in_cores(j.0))
-        }
-    }
-}
-
-// Seam: a register with its flag set.
-pub fn flagged(r: Register) -> Register
-    ensures { λ q. ⌜ q ≡ flagged r ⌝ }
-{
-    let t = r.ticket;
-    Register {
-        ticket: t,
-        valid: r.valid,
-        flag: true,
+        unit_place(s, c)
     }
 }

@@ -1,3 +1,2 @@
-pub mod Winning
 pub mod Deciding
 pub mod Determined

@@ -1,3 +1,1 @@
-pub mod Settle
-pub mod Poll
 pub mod Plan

@@ -1,101 +1,73 @@
--- The step by its parts: the core that it names and the one or two units that it touches are read, what becomes of them is planned,
--- and the plan is put back. That this is the step on a sound table is the law `by-parts`.
+-- Detail: the step by its parts. What becomes of the core that it names and of the one or two units that it touches. Put back, this is
+-- the step on a sound table: the law `by-parts`.
 use Prim.Native.Nat.{ℕ}
 use mathlib.Core.Bool.{cond}
 use mathlib.Core.List.{List, _++_}
 use Rattle.ticket.specs.Kinds.{ticket}
-use Rattle.ticket.specs.Order.{after}
+use Rattle.ticket.specs.declared.kinds.CoreNo.{CoreNo}
 use Rattle.ticket.specs.declared.kinds.Ticket.{Ticket}
 use Rattle.ticket.specs.declared.kinds.UnitNo.{UnitNo}
 use Rattle.parts.specs.State.{twoStage}
-use Rattle.parts.specs.Parts.{unitNo, blank, standing, idle, core, registerIn}
+use Rattle.parts.specs.Parts.{standing, registerIn, registered}
 use Rattle.parts.specs.Answer.{packed}
-use Rattle.places.specs.Places.{corePlace}
-use Rattle.parts.specs.declared.kinds.Register.{Register}
 use Rattle.parts.specs.declared.kinds.LockUnit.{LockUnit}
 use Rattle.parts.specs.declared.kinds.Core.{Core}
 use Rattle.parts.specs.declared.kinds.Counts.{Counts}
-use Rattle.parts.specs.declared.kinds.State.the-variants.{Waiting, WaitingSecond, Away}
 use Rattle.parts.specs.declared.answer.Answer.{Answer}
-use Rattle.parts.specs.declared.answer.Answer.the-variants.{Done, Granted, NotYet}
 use Rattle.parts.specs.declared.answer.Grants.{Grants}
 use Rattle.parts.specs.declared.answer.Grants.the-variants.{None}
 use Rattle.parts.specs.declared.answer.Step.{Step}
-use Rattle.parts.specs.declared.answer.Step.the-variants.{R, N, P, I, C, L}
-use Rattle.refusals.specs.Judged.{judged}
+use Rattle.places.specs.Places.{corePlace}
+use Rattle.refusals.specs.Judge.{judge}
 use Rattle.refusals.specs.declared.verdict.Verdict.{Verdict}
 use Rattle.refusals.specs.declared.verdict.Verdict.the-variants.{Allowed, Refused}
-use Rattle.plan.specs.Settle.{next, won, registered, settledUnit}
-use Rattle.plan.specs.Poll.{served, heir}
-use Rattle.plan.specs.declared.settle.Best.{Best}
+use Rattle.settling.specs.Line.{nextOf, won}
+use Rattle.settling.specs.Settle.{enter, leave}
+use Rattle.effects.specs.Effect.{stepEffect}
+use Rattle.effects.specs.declared.kinds.Move.{Move}
+use Rattle.effects.specs.declared.kinds.Move.the-variants.{Stay, Enter, Carry, GiveUp}
+use Rattle.effects.specs.declared.kinds.Effect.{Effect}
 use Rattle.plan.specs.declared.planning.Plan.{Plan}
 
--- no unit settles; c, p and q are what stands at the places from now on
-abbrev pub quietly : Answer → Ticket → Ticket → Core → Register → Register → Plan
-quietly a n m c p q = record { first = p; second = q; core = c; counter = m; ticket = n; grants = None; answer = a }
+-- a refused step hands back what it read
+abbrev pub refuse : Answer → Ticket → Core → LockUnit → LockUnit → Plan
+refuse a m c x y = record { first = x; second = y; core = c; counter = m; ticket = ticket 0; grants = None; answer = a }
 
--- a refused step puts back what it read
-abbrev pub refuse : Answer → ℕ → Ticket → Core → LockUnit → LockUnit → Plan
-refuse a k m c x y = quietly a (ticket 0) m c (registerIn x k) (registerIn y k)
+-- the effect with what became of the units
+abbrev pub withUnits : Effect → LockUnit → LockUnit → Grants → Plan
+withUnits e x y g =
+    record { first = x; second = y; core = e .core; counter = e .counter; ticket = e .ticket; grants = g; answer = e .answer }
 
--- the step is done: its core becomes c, with the register r; the ticket reported is n, the counter m
-abbrev pub done : Core → Register → Ticket → Ticket → Grants → Plan
-done c r n m g = record { first = r; second = r; core = c; counter = m; ticket = n; grants = g; answer = Done }
+-- core k enters unit u, which is x, with the ticket t
+abbrev pub entered : Effect → ℕ → CoreNo → UnitNo → Ticket → LockUnit → LockUnit → Plan
+entered e n k u t x y = let s = enter n x k t in withUnits e (s .unit) y (packed (won (u .0) (s .winner)))
 
--- the core that the unit x grants when its register of core k became r
-abbrev pub winner : LockUnit → ℕ → Register → Best
-winner x k r = settledUnit (registered x k r) .winner
-
--- core k, which becomes c, enters unit u, which is x, with ticket n, and the unit settles
-abbrev pub entering : ℕ → Core → UnitNo → LockUnit → Ticket → Ticket → Plan
-entering k c u x n m = done c (standing n) n m (packed (won (u .0) (winner x k (standing n))))
-
--- the grants when core k, which is c, gives up its registers at x and y, and both settle
-abbrev pub freeing : ℕ → Core → LockUnit → LockUnit → Grants
-freeing k c x y =
+-- core k, which is c, gives up its registers at its units
+abbrev pub givenUp : Effect → ℕ → CoreNo → Core → LockUnit → LockUnit → Plan
+givenUp e n k c x y =
+    let s = leave n x k in
+    let z = leave n y k in
     cond (twoStage (c .state))
-    (packed (won (c .first .0) (winner x k blank) ++ won (c .second .0) (winner y k blank)))
-    (packed (won (c .first .0) (winner x k blank)))
+    (withUnits e (s .unit) (z .unit) (packed (won (c .first .0) (s .winner) ++ won (c .second .0) (z .winner))))
+    (withUnits e (s .unit) y (packed (won (c .first .0) (s .winner))))
 
--- P: the core, which is c, waits at the unit y; at the second stage it holds x
-abbrev pub polling : ℕ → Core → Ticket → LockUnit → LockUnit → Plan
-polling k c m x y =
-    let n = heir (c .carried) (next x) in
-    cond (registerIn y k .flag)
-    (quietly Granted (c .carried) m (core (c .own) (c .carried) (c .first) (c .second) (served (c .state))) (registerIn x k) (registerIn y k))
-    (cond (twoStage (c .state))
-    (quietly NotYet n m (core (c .own) n (c .first) (c .second) (c .state)) (registerIn x k) (standing n))
-    (quietly NotYet (c .carried) m c (registerIn x k) (registerIn y k)))
+-- what core k, which is c, does
+abbrev pub carried : Move → Effect → ℕ → CoreNo → Core → LockUnit → LockUnit → Plan
+carried Stay e n k c x y = withUnits e x y None
+carried (Enter u t) e n k c x y = entered e n k u t x y
+carried (Carry t) e n k c x y = withUnits e x (registered y (k .0) (standing t)) None
+carried GiveUp e n k c x y = givenUp e n k c x y
 
--- each allowed step: k is the place of its core, m the counter, c the core, x and y the units at its places
-abbrev pub requestPlan : ℕ → UnitNo → Ticket → LockUnit → Plan
-requestPlan k u m x = entering k (core m m u (unitNo 0) Waiting) u x m (ticket (after (m .0)))
+abbrev pub carryOut : Effect → ℕ → CoreNo → Core → LockUnit → LockUnit → Plan
+carryOut e n k c x y = carried (e .does) e n k c x y
 
-abbrev pub nestPlan : ℕ → UnitNo → Ticket → Core → LockUnit → Plan
-nestPlan k u m c x = entering k (core (c .own) (c .own) (c .first) u WaitingSecond) u x (c .own) m
+-- an allowed step has its effect
+abbrev pub decided : Verdict → Ticket → Core → LockUnit → LockUnit → Plan → Plan
+decided Allowed m c x y p = p
+decided (Refused a) m c x y p = refuse a m c x y
 
-abbrev pub interruptPlan : ℕ → Ticket → Core → LockUnit → LockUnit → Plan
-interruptPlan k m c x y = done (core (c .own) (c .own) (c .first) (unitNo 0) Away) blank (c .own) m (freeing k c x y)
-
-abbrev pub comeBackPlan : ℕ → Ticket → Core → LockUnit → Plan
-comeBackPlan k m c x = entering k (core (c .own) (c .own) (c .first) (unitNo 0) Waiting) (c .first) x (c .own) m
-
-abbrev pub releasePlan : ℕ → Ticket → Core → LockUnit → LockUnit → Plan
-releasePlan k m c x y = done idle blank (c .own) m (freeing k c x y)
-
-abbrev pub allowed : Step → ℕ → Ticket → Core → LockUnit → LockUnit → Plan
-allowed (R j u) k m c x y = requestPlan k u m x
-allowed (N j u) k m c x y = nestPlan k u m c x
-allowed (P j) k m c x y = polling k c m x y
-allowed (I j) k m c x y = interruptPlan k m c x y
-allowed (C j) k m c x y = comeBackPlan k m c x
-allowed (L j) k m c x y = releasePlan k m c x y
-
--- an allowed step does its work
-abbrev pub decided : Verdict → ℕ → Ticket → Core → LockUnit → LockUnit → Plan → Plan
-decided Allowed k m c x y p = p
-decided (Refused a) k m c x y p = refuse a k m c x y
-
--- the step: n are the counts, cs the cores
-unfoldable pub planned : Step → Counts → Ticket → List Core → Core → LockUnit → LockUnit → Plan
-planned s n m cs c x y = decided (judged s n m cs c) (corePlace s) m c x y (allowed s (corePlace s) m c x y)
+-- the step: n are the counts, m the counter, cs the cores, c the core that it names
+unfoldable pub planStep : Step → Counts → Ticket → List Core → Core → LockUnit → LockUnit → Plan
+planStep s n m cs c x y =
+    let k = corePlace s in
+    decided (judge s n m cs c) m c x y (carryOut (stepEffect s m c (registerIn y (k .0) .flag) (nextOf (n .cores) x)) (n .cores) k c x y)

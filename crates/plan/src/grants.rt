@@ -1,12 +1,12 @@
 // The grants of the units that a step touched.
-use crate::settle::Best;
 use parts::Grants;
+use settling::Best;
 use ticket::Grant;
 use ticket::UnitNo;
 ghost use mathlib.Core.Path.{_≡_};
 ghost use mathlib.Core.List.{_++_};
 ghost use Rattle.parts.specs.Answer.{packed};
-ghost use Rattle.plan.specs.Settle.{won};
+ghost use Rattle.settling.specs.Line.{won};
 
 // The grant of a unit that settled.
 pub(crate) fn one_grant(u: UnitNo, w: Best) -> Grants
@@ -14,7 +14,7 @@ pub(crate) fn one_grant(u: UnitNo, w: Best) -> Grants
 {
     match w {
         Best::Nobody => Grants::None,
-        Best::Core(k, _) => Grants::One(Grant::of(u, k)),
+        Best::Won(k, _) => Grants::One(Grant::of(u, k)),
     }
 }
 
@@ -24,9 +24,9 @@ pub(crate) fn two_grants(u: UnitNo, w: Best, v: UnitNo, x: Best) -> Grants
 {
     match w {
         Best::Nobody => one_grant(v, x),
-        Best::Core(k, _) => match x {
+        Best::Won(k, _) => match x {
             Best::Nobody => Grants::One(Grant::of(u, k)),
-            Best::Core(j, _) => Grants::Two(Grant::of(u, k), Grant::of(v, j)),
+            Best::Won(j, _) => Grants::Two(Grant::of(u, k), Grant::of(v, j)),
         },
     }
 }

@@ -1,7 +1,7 @@
 -- A chain of refusals, each with the test that the code made of it: the first that is due is the verdict.
 use mathlib.Core.Bool.{Bool, true, false}
 use mathlib.Core.Path.{_≡_, sym, _∙_, refl}
-use Rattle.refusals.specs.Judged.{unless}
+use Rattle.refusals.specs.Judge.{unless}
 use Rattle.parts.specs.declared.answer.Answer.{Answer}
 use Rattle.refusals.specs.declared.verdict.Verdict.{Verdict}
 use Rattle.refusals.specs.declared.verdict.Verdict.the-variants.{Refused, Allowed}

@@ -2,7 +2,6 @@
 // it names.
 //
 // Seam, for the plan of a step: `judge`.
-mod state;
 mod verdict;
 
 pub use verdict::Verdict;

@@ -1,16 +1,16 @@
 // Which steps are allowed: the refusals 10 to 15, in their order. They are judged by the counts and by the
 // core that the step names; R looks at the other cores too.
-use crate::state::holds;
-use crate::state::holds_one;
-use crate::state::is_away;
-use crate::state::waits;
 use parts::Answer;
 use parts::CORES;
 use parts::Core;
 use parts::Counts;
 use parts::State;
 use parts::Step;
+use parts::holds;
+use parts::holds_one;
+use parts::is_away;
 use parts::is_idle;
+use parts::waits;
 use ticket::CoreNo;
 use ticket::Ticket;
 use ticket::UnitNo;
@@ -19,7 +19,7 @@ use ticket::top_bit;
 ghost use mathlib.Core.Path.{_≡_};
 ghost use Prim.Native.Nat.{_≤_};
 ghost use Rattle.parts.specs.Parts.{cores};
-ghost use Rattle.refusals.specs.Judged.{absent, unplaced, aged, anyAged, onRequest, onNest, onInterrupt, inState, judged};
+ghost use Rattle.refusals.specs.Judge.{noCore, noUnit, wrongClass, old, stretched, mayRequest, mayNest, mayInterrupt, inState, judge};
 
 pub enum Verdict {
     Allowed,
@@ -28,22 +28,29 @@ pub enum Verdict {
 
 // 10: the core is not in the table.
 fn no_core(counts: Counts, k: CoreNo) -> bool
-    ensures { λ r. ⌜ r ≡ absent counts k ⌝ }
+    ensures { λ r. ⌜ r ≡ noCore counts k ⌝ }
 {
     k.0 >= counts.cores
 }
 
 // 11: the unit is not in the table.
 fn no_unit(counts: Counts, u: UnitNo) -> bool
-    ensures { λ r. ⌜ r ≡ unplaced counts u ⌝ }
+    ensures { λ r. ⌜ r ≡ noUnit counts u ⌝ }
 {
     let all = counts.first as u32 + counts.second as u32;
     u.0 as u32 >= all
 }
 
+// 13: the unit is first-class, or the held one is second-class.
+fn wrong_class(counts: Counts, held: UnitNo, u: UnitNo) -> bool
+    ensures { λ r. ⌜ r ≡ wrongClass counts held u ⌝ }
+{
+    (u.0 < counts.first) | (held.0 >= counts.first)
+}
+
 // A core's ticket is live and lies half the circle or more behind the counter.
-fn old(c: Core, counter: Ticket) -> bool
-    ensures { λ r. ⌜ r ≡ aged counter c ⌝ }
+fn old(counter: Ticket, c: Core) -> bool
+    ensures { λ r. ⌜ r ≡ old counter c ⌝ }
 {
     let s = c.state;
     let own = c.own;
@@ -51,15 +58,15 @@ fn old(c: Core, counter: Ticket) -> bool
 }
 
 // 15: some live ticket does. The cores past the count are not looked at.
-fn stretched(counts: Counts, all: [Core; CORES], counter: Ticket) -> bool
+fn stretched(counts: Counts, counter: Ticket, all: [Core; CORES]) -> bool
     requires { ⌜ counts .cores ≤ cores ⌝ }
-    ensures { λ r. ⌜ r ≡ anyAged counter all (counts .cores) ⌝ }
+    ensures { λ r. ⌜ r ≡ stretched counter all (counts .cores) ⌝ }
 {
     let n = counts.cores as usize;
     let mut k = 0;
     while k < n {
         let c = all[k];
-        if old(c, counter) {
+        if old(counter, c) {
             return true;
         }
         k += 1;
@@ -69,14 +76,14 @@ fn stretched(counts: Counts, all: [Core; CORES], counter: Ticket) -> bool
 
 fn may_request(
     counts: Counts,
-    all: [Core; CORES],
     counter: Ticket,
+    all: [Core; CORES],
     k: CoreNo,
     s: State,
     u: UnitNo,
 ) -> Verdict
     requires { ⌜ counts .cores ≤ cores ⌝ }
-    ensures { λ r. ⌜ r ≡ onRequest counts all counter k s u ⌝ }
+    ensures { λ r. ⌜ r ≡ mayRequest counts counter all k s u ⌝ }
 {
     if no_core(counts, k) {
         return Verdict::Refused(Answer::NoCore);
@@ -87,14 +94,14 @@ fn may_request(
     if !is_idle(s) {
         return Verdict::Refused(Answer::WrongState);
     }
-    if stretched(counts, all, counter) {
+    if stretched(counts, counter, all) {
         return Verdict::Refused(Answer::Stretched);
     }
     Verdict::Allowed
 }
 
 fn may_nest(counts: Counts, k: CoreNo, s: State, held: UnitNo, u: UnitNo) -> Verdict
-    ensures { λ r. ⌜ r ≡ onNest counts k s held u ⌝ }
+    ensures { λ r. ⌜ r ≡ mayNest counts k s held u ⌝ }
 {
     if no_core(counts, k) {
         return Verdict::Refused(Answer::NoCore);
@@ -105,15 +112,14 @@ fn may_nest(counts: Counts, k: CoreNo, s: State, held: UnitNo, u: UnitNo) -> Ver
     if !holds_one(s) {
         return Verdict::Refused(Answer::WrongState);
     }
-    // 13: the unit is first-class, or the held one is second-class
-    if (u.0 < counts.first) | (held.0 >= counts.first) {
+    if wrong_class(counts, held, u) {
         return Verdict::Refused(Answer::WrongClass);
     }
     Verdict::Allowed
 }
 
 fn may_interrupt(counts: Counts, k: CoreNo, s: State) -> Verdict
-    ensures { λ r. ⌜ r ≡ onInterrupt counts k s ⌝ }
+    ensures { λ r. ⌜ r ≡ mayInterrupt counts k s ⌝ }
 {
     if no_core(counts, k) {
         return Verdict::Refused(Answer::NoCore);
@@ -143,12 +149,12 @@ fn in_state(counts: Counts, k: CoreNo, right: bool) -> Verdict
 // Seam: whether a step is allowed, of which c is the core that it names.
 pub fn judge(s: Step, counts: Counts, counter: Ticket, all: [Core; CORES], c: Core) -> Verdict
     requires { ⌜ counts .cores ≤ cores ⌝ }
-    ensures { λ r. ⌜ r ≡ judged s counts counter all c ⌝ }
+    ensures { λ r. ⌜ r ≡ judge s counts counter all c ⌝ }
 {
     let z = c.state;
     let held = c.first;
     match s {
-        Step::R(k, u) => may_request(counts, all, counter, k, z, u),
+        Step::R(k, u) => may_request(counts, counter, all, k, z, u),
         Step::N(k, u) => may_nest(counts, k, z, held, u),
         Step::P(k) => in_state(counts, k, waits(z)),
         Step::I(k) => may_interrupt(counts, k, z),

@@ -7,23 +7,24 @@ use mathlib.Core.List.{List, [], _∷_, _++_}
 use mathlib.Core.Path.{_≡_, refl}
 use native.Mathlib.Omega.{arith}
 use Rattle.ticket.specs.Kinds.{ticket}
-use Rattle.ticket.specs.Order.{behind, topBit, older, after as counted}
+use Rattle.ticket.specs.Order.{behind, topBit, older, after}
 use Rattle.parts.specs.Fold.{upTo, every}
 use Rattle.parts.specs.State.{isIdle, stands, holds}
 use Rattle.parts.specs.Parts.{cores, coreNo, unitNo}
 use Rattle.block.specs.Table.{coreOf}
 use Rattle.parts.specs.Answer.{numberOf}
-use Rattle.agreement.specs.Agreement.{unitSound}
+use Rattle.soundness.specs.Agreement.{unitSound}
 use Rattle.soundness.specs.Sound.{coreSound}
 use Rattle.block.specs.Sound.{sound}
 use Rattle.block.specs.Steps.{onSound, step}
+use Rattle.block.specs.Over.{over}
 use Rattle.parts.specs.declared.kinds.State.{State}
 use Rattle.parts.specs.declared.kinds.State.the-variants.{Idle, Waiting, Holding, WaitingSecond, HoldingBoth, Away}
 use Rattle.parts.specs.declared.answer.Step.{Step}
 use Rattle.parts.specs.declared.answer.Step.the-variants.{R, P, I, C, L}
 use Rattle.parts.proofs.Bools.{clash, not-true-false}
 use Rattle.parts.proofs.Folds.{every-at}
-use Rattle.fairness.specs.Run.{Place, Reached, onward, after, start}
+use Rattle.fairness.specs.Run.{Place, Reached, onward, afterAll, start}
 use Rattle.fairness.specs.Stretch.{grants, gives, grantsOf, enters, leaves, stretch, earlier, passed, interruptions}
 use Rattle.fairness.proofs.Invariant.{live-small, numbered}
 
@@ -33,14 +34,14 @@ r k = R (coreNo k) (unitNo 0)
 abbrev fresh : Place
 fresh = start (record { cores = 4; first = 1; second = 0 }) (ticket 65531)
 
-reaches : (steps : List Step) → Reached (after fresh steps)
+reaches : (steps : List Step) → Reached (afterAll fresh steps)
 reaches steps =
     record {
       counts = record { cores = 4; first = 1; second = 0 };
       counter = ticket 65531;
       steps = steps;
       good = refl;
-      fits = omega arith;
+      counterFits = omega arith;
       run = refl;
     }
 
@@ -60,7 +61,7 @@ before =
     []
 
 abbrev p : Place
-p = after fresh before
+p = afterAll fresh before
 
 -- core 2 comes back
 abbrev back : Step
@@ -82,29 +83,29 @@ meanwhile =
     []
 
 abbrev q : Place
-q = after e meanwhile
+q = afterAll e meanwhile
 
 pub entered : enters p back 2 0 ≡ true
-unfolding behind topBit counted upTo coreSound unitSound sound onSound step after gives
+unfolding behind topBit after upTo coreSound unitSound sound onSound step over gives
 entered = refl
 
 pub stays : stretch 2 0 e meanwhile ≡ true
-unfolding behind topBit counted upTo coreSound unitSound sound onSound step after gives stretch
+unfolding behind topBit after upTo coreSound unitSound sound onSound step over gives
 stays = refl
 
 -- the counter wraps meanwhile
 pub wraps : (e .table .counter .0 ≡ 65535) × (q .table .counter .0 ≡ 1)
-unfolding behind topBit counted upTo coreSound unitSound sound onSound step after
+unfolding behind topBit after upTo coreSound unitSound sound onSound step over
 wraps = (refl, refl)
 
 -- passed as often as the bound allows: two tickets and one interrupt
 pub exactly : (passed 0 e meanwhile ≡ 3) × (earlier e 2 ≡ 2) × (interruptions e 2 e meanwhile ≡ 1)
-unfolding behind topBit counted upTo coreSound unitSound sound onSound step after gives grantsOf passed interruptions
+unfolding behind topBit after upTo coreSound unitSound sound onSound step over gives grantsOf
 exactly = (refl, refl, refl)
 
 -- and then granted
 pub at-last : gives 0 2 (grants q (L (coreNo 0))) ≡ true
-unfolding behind topBit counted upTo coreSound unitSound sound onSound step after gives
+unfolding behind topBit after upTo coreSound unitSound sound onSound step over gives
 at-last = refl
 
 -- core 1's new ticket is 0, and that of core 2 reads older
@@ -113,7 +114,7 @@ pub across :
     (older (coreOf (q .table) 2 .own .0) (coreOf (q .table) 1 .own .0) ≡ true) ×
     (q .issue 2 ≡ 2) ×
     (q .issue 1 ≡ 5)
-unfolding behind topBit counted upTo coreSound unitSound sound onSound step after
+unfolding behind topBit after upTo coreSound unitSound sound onSound step over
 across = (refl, refl, refl, refl)
 
 -- The bound less one, and the bound without the interrupts, are false.
@@ -147,11 +148,11 @@ some = L (coreNo 3) ∷ r 3 ∷ []
 
 pub next-before :
     (stretch 2 0 e some ≡ true) ×
-    (leaves 2 0 (after e some) (I (coreNo 0)) ≡ false) ×
-    (gives 0 1 (grants (after e some) (I (coreNo 0))) ≡ true) ×
-    (onward (after e some) (I (coreNo 0)) .issue 1 ≡ 1) ×
+    (leaves 2 0 (afterAll e some) (I (coreNo 0)) ≡ false) ×
+    (gives 0 1 (grants (afterAll e some) (I (coreNo 0))) ≡ true) ×
+    (onward (afterAll e some) (I (coreNo 0)) .issue 1 ≡ 1) ×
     (e .issue 2 ≡ 2)
-unfolding behind topBit counted upTo coreSound unitSound sound onSound step after gives stretch
+unfolding behind topBit after upTo coreSound unitSound sound onSound step over gives
 next-before = (refl, refl, refl, refl, refl)
 
 pub not-by-two :
@@ -159,9 +160,9 @@ pub not-by-two :
     Reached p →
     enters p s k u ≡ true →
     stretch k u (onward p s) more ≡ true →
-    leaves k u (after (onward p s) more) z ≡ false →
-    gives u j (grants (after (onward p s) more) z) ≡ true →
-    onward (after (onward p s) more) z .issue j + 1 < onward p s .issue k) →
+    leaves k u (afterAll (onward p s) more) z ≡ false →
+    gives u j (grants (afterAll (onward p s) more) z) ≡ true →
+    onward (afterAll (onward p s) more) z .issue j + 1 < onward p s .issue k) →
     ⊥
 not-by-two claim =
     let f = next-before in
@@ -171,13 +172,13 @@ not-by-two claim =
 -- "Never stuck" without the second half is false: a core that was granted and has not polled.
 
 abbrev asked : Place
-asked = after fresh (r 0 ∷ [])
+asked = afterAll fresh (r 0 ∷ [])
 
 pub unpolled :
     (stands (coreOf (asked .table) 0 .state) ≡ true) ×
     (every (λ (j : ℕ). not (holds (coreOf (asked .table) j .state))) cores ≡ true) ×
     (numberOf (step (asked .table) (P (coreNo 0)) .answer) ≡ 1)
-unfolding behind topBit counted upTo coreSound unitSound sound onSound step after
+unfolding behind topBit after upTo coreSound unitSound sound onSound step over
 unpolled = (refl, refl, refl)
 
 holds-live : (z : State) → holds z ≡ true → isIdle z ≡ false
@@ -213,7 +214,7 @@ pub interrupted :
     (stretch 2 0 e (meanwhile ++ (called ∷ [])) ≡ false) ×
     (gives 0 3 (grants (onward q called) (L (coreNo 0))) ≡ true) ×
     (onward (onward q called) (L (coreNo 0)) .issue 3 ≡ 4)
-unfolding behind topBit counted upTo coreSound unitSound sound onSound step after gives stretch
+unfolding behind topBit after upTo coreSound unitSound sound onSound step over gives
 interrupted = (refl, refl, refl, refl)
 
 -- a stretch that goes on over an interrupt
@@ -223,10 +224,10 @@ ungranted k u p (s ∷ more) = not (gives u k (grants p s)) && ungranted k u (on
 
 still-ungranted :
     (ungranted 2 0 e (meanwhile ++ (called ∷ [])) ≡ true) ×
-    (gives 0 2 (grants (after e (meanwhile ++ (called ∷ []))) (L (coreNo 0))) ≡ false) ×
-    (gives 0 3 (grants (after e (meanwhile ++ (called ∷ []))) (L (coreNo 0))) ≡ true) ×
-    (onward (after e (meanwhile ++ (called ∷ []))) (L (coreNo 0)) .issue 3 ≡ 4)
-unfolding behind topBit counted upTo coreSound unitSound sound onSound step after gives ungranted
+    (gives 0 2 (grants (afterAll e (meanwhile ++ (called ∷ []))) (L (coreNo 0))) ≡ false) ×
+    (gives 0 3 (grants (afterAll e (meanwhile ++ (called ∷ []))) (L (coreNo 0))) ≡ true) ×
+    (onward (afterAll e (meanwhile ++ (called ∷ []))) (L (coreNo 0)) .issue 3 ≡ 4)
+unfolding behind topBit after upTo coreSound unitSound sound onSound step over gives ungranted
 still-ungranted = (refl, refl, refl, refl)
 
 pub not-kept-open :
@@ -234,9 +235,9 @@ pub not-kept-open :
     Reached p →
     enters p s k u ≡ true →
     ungranted k u (onward p s) more ≡ true →
-    gives u k (grants (after (onward p s) more) z) ≡ false →
-    gives u j (grants (after (onward p s) more) z) ≡ true →
-    onward (after (onward p s) more) z .issue j < onward p s .issue k) →
+    gives u k (grants (afterAll (onward p s) more) z) ≡ false →
+    gives u j (grants (afterAll (onward p s) more) z) ≡ true →
+    onward (afterAll (onward p s) more) z .issue j < onward p s .issue k) →
     ⊥
 not-kept-open claim =
     let f = still-ungranted in

@@ -1,10 +1,11 @@
 // The clauses of the cores: of any counts, counter and cores whatsoever.
-use crate::state::unserved;
 use parts::CORES;
 use parts::Core;
 use parts::Counts;
 use parts::is_idle;
 use parts::two_stage;
+use parts::unserved;
+use ticket::CoreNo;
 use ticket::Ticket;
 use ticket::behind;
 use ticket::older;
@@ -20,20 +21,22 @@ pub fn cores_sound(counts: Counts, counter: Ticket, all: [Core; CORES]) -> bool
     ensures { λ r. ⌜ r ≡ every (coreSound counts counter all) cores ⌝ }
 {
     let mut ok = true;
-    let mut k = 0;
-    while k < CORES {
-        ok = ok & core_sound(counts, counter, all, k);
-        k += 1;
+    let mut i = 0;
+    while i < CORES {
+        let k = i as u16;
+        ok = ok & core_sound(counts, counter, all, CoreNo(k));
+        i += 1;
     }
     ok
 }
 
 // The clauses of core k.
-fn core_sound(counts: Counts, counter: Ticket, all: [Core; CORES], k: usize) -> bool
-    requires { ⌜ k < cores ⌝ }
-    ensures { λ r. ⌜ r ≡ coreSound counts counter all k ⌝ }
+fn core_sound(counts: Counts, counter: Ticket, all: [Core; CORES], k: CoreNo) -> bool
+    requires { ⌜ k .0 < cores ⌝ }
+    ensures { λ r. ⌜ r ≡ coreSound counts counter all (k .0) ⌝ }
 {
-    let c = all[k];
+    let i = k.0 as usize;
+    let c = all[i];
     within(counts, k, c)
         & idle_blank(c)
         & named(counts, c)
@@ -43,12 +46,11 @@ fn core_sound(counts: Counts, counter: Ticket, all: [Core; CORES], k: usize) -> 
 }
 
 // A core past the count is idle.
-fn within(counts: Counts, k: usize, c: Core) -> bool
-    ensures { λ r. ⌜ r ≡ within counts k c ⌝ }
+fn within(counts: Counts, k: CoreNo, c: Core) -> bool
+    ensures { λ r. ⌜ r ≡ within counts (k .0) c ⌝ }
 {
     let s = c.state;
-    let n = counts.cores as usize;
-    (k < n) | is_idle(s)
+    (k.0 < counts.cores) | is_idle(s)
 }
 
 // An idle core has ticket 0, and names no unit.
@@ -95,28 +97,29 @@ fn recent(counter: Ticket, c: Core) -> bool
 }
 
 // No other core has the ticket of core k, which is c.
-fn apart(all: [Core; CORES], k: usize, c: Core) -> bool
-    ensures { λ r. ⌜ r ≡ every (λ j. differ k c j (getD all j idle)) cores ⌝ }
+fn apart(all: [Core; CORES], k: CoreNo, c: Core) -> bool
+    ensures { λ r. ⌜ r ≡ every (λ j. differ (k .0) c j (getD all j idle)) cores ⌝ }
 {
     let mut ok = true;
-    let mut j = 0;
-    while j < CORES {
-        let d = all[j];
-        ok = ok & differ(k, c, j, d);
-        j += 1;
+    let mut i = 0;
+    while i < CORES {
+        let d = all[i];
+        let j = i as u16;
+        ok = ok & differ(k, c, CoreNo(j), d);
+        i += 1;
     }
     ok
 }
 
 // Cores k and j, which are c and d, are the same, or one of them has no ticket, or their tickets differ.
-fn differ(k: usize, c: Core, j: usize, d: Core) -> bool
-    ensures { λ r. ⌜ r ≡ differ k c j d ⌝ }
+fn differ(k: CoreNo, c: Core, j: CoreNo, d: Core) -> bool
+    ensures { λ r. ⌜ r ≡ differ (k .0) c (j .0) d ⌝ }
 {
     let s = c.state;
     let z = d.state;
     let a = c.own;
     let b = d.own;
-    (k == j) | is_idle(s) | is_idle(z) | !(a.0 == b.0)
+    (k.0 == j.0) | is_idle(s) | is_idle(z) | !(a.0 == b.0)
 }
 
 // The carried ticket is the own one, or at the second stage an inherited one.

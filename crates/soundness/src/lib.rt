@@ -1,7 +1,8 @@
-// Soundness of a table's cores: a test for each clause.
+// Soundness: a test for each clause that speaks of a table's cores, and for each that speaks of one unit.
 //
-// Seam, for the table's test: `cores_sound`.
+// Seams, for the table's test: `cores_sound`, `unit_sound`.
 mod cores;
-mod state;
+mod units;
 
 pub use cores::cores_sound;
+pub use units::unit_sound;

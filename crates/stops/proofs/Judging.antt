@@ -11,16 +11,16 @@ use Rattle.lines.specs.Reading.{readStep}
 use Rattle.lines.specs.declared.reading.StepLine.{StepLine}
 use Rattle.lines.specs.declared.reading.StepLine.the-variants.{Line, Finished as Nothing, Malformed as NoStep, Unfinished as Cut}
 use Rattle.stops.specs.Run.{stepsMost}
-use Rattle.stops.specs.Due.{judged, due}
+use Rattle.stops.specs.Due.{lineDue, due}
 use Rattle.stops.specs.declared.todo.Todo.{Todo}
 use Rattle.stops.specs.declared.todo.Todo.the-variants.{Work, Stop as Halt}
 use Rattle.stops.specs.declared.run.Stop.{Stop}
 use Rattle.stops.specs.declared.run.Stop.the-variants.{Finished, Unsound, Malformed, Unfinished, TooMany}
 
-pub fit-works : (x : Step) (next : ℕ) (fit : Bool) → fit ≡ true → Work x next ≡ judged (Line x next) fit
+pub fit-works : (x : Step) (next : ℕ) (fit : Bool) → fit ≡ true → Work x next ≡ lineDue (Line x next) fit
 fit-works x next fit e = rw e
 
-pub unfit-stops : (x : Step) (next : ℕ) (fit : Bool) → fit ≡ false → Halt Unsound ≡ judged (Line x next) fit
+pub unfit-stops : (x : Step) (next : ℕ) (fit : Bool) → fit ≡ false → Halt Unsound ≡ lineDue (Line x next) fit
 unfit-stops x next fit e = rw e
 
 module _ (s : List ℕ) (place steps : ℕ) (fit : Bool) where
@@ -37,10 +37,10 @@ module _ (s : List ℕ) (place steps : ℕ) (fit : Bool) where
       (w x : StepLine) (r : Todo) →
       w ≡ readStep s place →
       w ≡ x →
-      r ≡ judged x fit →
+      r ≡ lineDue x fit →
       r ≡ due s place steps fit
   lined h l w x r says is so =
       so
-      ∙ ap (λ (y : StepLine). judged y fit) (sym is ∙ says)
-      ∙ sym (ap (λ (b : Bool). cond b (Halt TooMany) (judged (readStep s place) fit)) (lt-leb stepsMost steps l))
-      ∙ sym (ap (λ (b : Bool). cond b (Halt Finished) (cond (leb stepsMost steps) (Halt TooMany) (judged (readStep s place) fit))) (lt-leb (length s) place h))
+      ∙ ap (λ (y : StepLine). lineDue y fit) (sym is ∙ says)
+      ∙ sym (ap (λ (b : Bool). cond b (Halt TooMany) (lineDue (readStep s place) fit)) (lt-leb stepsMost steps l))
+      ∙ sym (ap (λ (b : Bool). cond b (Halt Finished) (cond (leb stepsMost steps) (Halt TooMany) (lineDue (readStep s place) fit))) (lt-leb (length s) place h))

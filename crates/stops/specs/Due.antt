@@ -13,14 +13,14 @@ use Rattle.stops.specs.declared.todo.Todo.the-variants.{Work, Stop as Ha
 use Rattle.stops.specs.declared.run.Stop.the-variants.{Finished, Unsound, Malformed, Unfinished, TooMany}
 
 -- a step line as it is read: 22, 21, and 16 on a table that is not sound
-abbrev pub judged : StepLine → Bool → Todo
-judged (Line x next) fit = cond fit (Work x next) (Halt Unsound)
-judged Nothing fit = Halt Finished
-judged NoStep fit = Halt Malformed
-judged Cut fit = Halt Unfinished
+abbrev pub lineDue : StepLine → Bool → Todo
+lineDue (Line x next) fit = cond fit (Work x next) (Halt Unsound)
+lineDue Nothing fit = Halt Finished
+lineDue NoStep fit = Halt Malformed
+lineDue Cut fit = Halt Unfinished
 
 -- finished and 24 before them
 abbrev pub due : List ℕ → ℕ → ℕ → Bool → Todo
 due s place steps fit =
     cond (leb (length s) place) (Halt Finished)
-    (cond (leb stepsMost steps) (Halt TooMany) (judged (readStep s place) fit))
+    (cond (leb stepsMost steps) (Halt TooMany) (lineDue (readStep s place) fit))

@@ -4,7 +4,7 @@ use crate::run::Stop;
 use lines::StepLine;
 use parts::Step;
 ghost use mathlib.Core.Path.{_≡_};
-ghost use Rattle.stops.specs.Due.{due, judged};
+ghost use Rattle.stops.specs.Due.{due, lineDue};
 
 // The line at a place after the header: a step to work, with the place after its line; or why the run
 // stops there. Room is asked for later.
@@ -33,7 +33,7 @@ pub fn due(script: &[u8], place: usize, steps: u32, fit: bool) -> Todo
 
 // A step is worked on a table that is fit.
 fn worked(s: Step, next: usize, fit: bool) -> Todo
-    ensures { λ r. ⌜ r ≡ judged (StepLine.Line s next) fit ⌝ }
+    ensures { λ r. ⌜ r ≡ lineDue (StepLine.Line s next) fit ⌝ }
 {
     if fit {
         Todo::Work(s, next)

@@ -31,8 +31,8 @@ use Rattle.lines.specs.declared.reading.StepLine.the-variants.{Line, Finished a
 use Rattle.digits.specs.declared.room.Written.{Written}
 use Rattle.digits.specs.declared.room.Written.the-variants.{Next, OutOfRange, NoRoom as Full}
 use Rattle.stops.specs.Run.{stepsMost}
-use Rattle.stops.specs.Due.{due, judged}
-use Rattle.calls.specs.Call.{Desk, Ended, runAt, stoppedAt, answered, worked, opened, turn, translated, call}
+use Rattle.stops.specs.Due.{due, lineDue}
+use Rattle.calls.specs.Call.{Desk, Ended, runAt, stoppedAt, answered, worked, opening, turn, translated, call}
 use Rattle.stops.specs.declared.todo.Todo.{Todo}
 use Rattle.stops.specs.declared.todo.Todo.the-variants.{Work, Stop as Halt}
 use Rattle.stops.specs.declared.run.Run.{Run}
@@ -41,6 +41,8 @@ use Rattle.stops.specs.declared.run.Stop.the-variants.{NoRoom, Finished, TooMan
 use Rattle.stops.specs.declared.run.Stopped.{Stopped}
 use Rattle.writing.proofs.AsWritten.{header-read-is-written}
 use Rattle.calls.proofs.Fuel.{on, stop}
+use Rattle.block.proofs.Access.{Shaped}
+use Rattle.laws.proofs.Keeping.{step-sound, step-shaped}
 
 -- a line that is to be worked was read, in time, for a table that is fit
 pub record Working (s : List ℕ) (place steps : ℕ) (fit : Bool) (x : Step) (next : ℕ) : Type 0 where
@@ -58,7 +60,7 @@ working s place steps fit x next d says is = go (leb (length s) place) (leb step
   where
     read :
         (l : StepLine) (b : Bool) →
-        judged l b ≡ Work x next →
+        lineDue l b ≡ Work x next →
         (b ≡ true) × (l ≡ Line x next)
     read (Line y n) true e = (refl, cc)
     read (Line y n) false e = let z : _≡_ {A = ℕ} 0 1 = cc in absurd (omega arith)
@@ -70,7 +72,7 @@ working s place steps fit x next d says is = go (leb (length s) place) (leb step
         (p q : Bool) →
         leb (length s) place ≡ p →
         leb stepsMost steps ≡ q →
-        cond p (Halt Finished) (cond q (Halt TooMany) (judged (readStep s place) fit)) ≡ Work x next →
+        cond p (Halt Finished) (cond q (Halt TooMany) (lineDue (readStep s place) fit)) ≡ Work x next →
         Working s place steps fit x next
     go true q f g e = let z : _≡_ {A = ℕ} 0 1 = cc in absurd (omega arith)
     go false true f g e = let z : _≡_ {A = ℕ} 0 1 = cc in absurd (omega arith)
@@ -204,10 +206,10 @@ module _ (r : Run) (s out : List ℕ) (unread : r .headed ≡ false) (h : Header
   abbrev before : Desk
   before = record { run = r; out = out }
 
-  opens : (g : HeaderLine) → h ≡ g → turn before s ≡ opened before g
+  opens : (g : HeaderLine) → h ≡ g → turn before s ≡ opening before g
   opens g is =
-      ap (λ (b : Bool). cond b (worked before (due s (r .place) (r .steps) (sound (r .table)))) (opened before (readHeader s (r .place)))) unread
-      ∙ ap (opened before) (sym says ∙ is)
+      ap (λ (b : Bool). cond b (worked before (due s (r .place) (r .steps) (sound (r .table)))) (opening before (readHeader s (r .place)))) unread
+      ∙ ap (opening before) (sym says ∙ is)
 
   ended : (why : Stop) → turn before s ≡ inr why → (record { run = r; why = why } ≡ call r s out .stopped) × (out ≡ call r s out .out)
   ended why e =
@@ -259,3 +261,12 @@ module _ (r : Run) (s out : List ℕ) (unread : r .headed ≡ false) (h : Header
           let u = unwritten before first next (build c n .table) (r .steps) w o put holds full in
           let z = ended NoRoom (opens (Header c n next) is ∙ u .0) in
           (z .0, u .1 ∙ z .1)
+
+-- The table after a step is as sound and as long as it was
+
+module _ (t : Table) (s : Step) (y : Stepped) (does : y ≡ onSound t s) (shaped : Shaped t) (fit : sound t ≡ true) where
+  pub stays-sound : sound (y .table) ≡ true
+  stays-sound = ap (λ (z : Stepped). sound (z .table)) does ∙ step-sound t s shaped fit
+
+  pub stays-shaped : Shaped (y .table)
+  stays-shaped = rw does (step-shaped t s shaped fit)

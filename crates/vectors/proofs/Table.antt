@@ -2,7 +2,7 @@
 use mathlib.Core.Path.{refl}
 use Rattle.ticket.specs.Order.{behind, topBit, after}
 use Rattle.parts.specs.Fold.{upTo}
-use Rattle.agreement.specs.Agreement.{unitSound}
+use Rattle.soundness.specs.Agreement.{unitSound}
 use Rattle.soundness.specs.Sound.{coreSound}
 use Rattle.block.specs.Sound.{sound}
 use Rattle.block.specs.Steps.{onSound, step}

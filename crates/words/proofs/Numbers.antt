@@ -4,7 +4,7 @@ use mathlib.Core.Bool.{Bool, true, false, cond}
 use mathlib.Core.Path.{_≡_, refl}
 use lib.Dec.{leb}
 use Rattle.parts.specs.declared.kinds.Register.{Register}
-use Rattle.words.specs.Word.{fits, wordOf, pack, registerOf, unpack, packedNumber, unpackedNumber}
+use Rattle.words.specs.Word.{packable, wordOf, pack, registerOf, unpack, packedNumber, unpackedNumber}
 use Rattle.words.specs.declared.word.Packed.the-variants.{Word, Refused}
 use Rattle.words.specs.declared.word.Unpacked.the-variants.{Register as Shown, Refused as Bad}
 
@@ -13,15 +13,15 @@ pub one-choice : {A B : Type 0} (f : A → B) (b : Bool) (x y : A) → f (cond b
 one-choice f true x y = refl
 one-choice f false x y = refl
 
-pub pack-number : (r : Register) → packedNumber (pack r) ≡ cond (fits r) 0 30
-pack-number r = one-choice packedNumber (fits r) (Word (wordOf r)) Refused
+pub pack-number : (r : Register) → packedNumber (pack r) ≡ cond (packable r) 0 30
+pack-number r = one-choice packedNumber (packable r) (Word (wordOf r)) Refused
 
-pub unpack-number : (w : ℕ) → unpackedNumber (unpack w) ≡ cond (leb 262144 w) 30 (cond (fits (registerOf w)) 0 30)
+pub unpack-number : (w : ℕ) → unpackedNumber (unpack w) ≡ cond (leb 262144 w) 30 (cond (packable (registerOf w)) 0 30)
 unpack-number w = go (leb 262144 w)
   where
     go :
         (b : Bool) →
-        unpackedNumber (cond b Bad (cond (fits (registerOf w)) (Shown (registerOf w)) Bad)) ≡
-        cond b 30 (cond (fits (registerOf w)) 0 30)
+        unpackedNumber (cond b Bad (cond (packable (registerOf w)) (Shown (registerOf w)) Bad)) ≡
+        cond b 30 (cond (packable (registerOf w)) 0 30)
     go true = refl
-    go false = one-choice unpackedNumber (fits (registerOf w)) (Shown (registerOf w)) Bad
+    go false = one-choice unpackedNumber (packable (registerOf w)) (Shown (registerOf w)) Bad

@@ -7,42 +7,42 @@ use native.Mathlib.Omega.{arith}
 use borrow.Author.Tests.{lt-leb}
 use Rattle.ticket.specs.Kinds.{ticket}
 use Rattle.parts.specs.declared.kinds.Register.{Register}
-use Rattle.words.specs.Word.{fits, wordOf, pack, registerOf, unpack, isGood}
+use Rattle.words.specs.Word.{packable, wordOf, pack, registerOf, unpack, isGood}
 use Rattle.words.specs.declared.word.Packed.the-variants.{Word, Refused}
 use Rattle.words.specs.declared.word.Unpacked.the-variants.{Register as Shown, Refused as Bad}
-use Rattle.words.proofs.Good.{narrow, good-fits}
+use Rattle.words.proofs.Good.{narrow, good-packable}
 use Rattle.words.proofs.Bits.{word-narrow, word-register, register-word}
 
 -- the two answers of each function, from its tests
-pub packs : (r : Register) → fits r ≡ true → pack r ≡ Word (wordOf r)
+pub packs : (r : Register) → packable r ≡ true → pack r ≡ Word (wordOf r)
 packs r e = rw e
 
-pub pack-refuses : (r : Register) → fits r ≡ false → pack r ≡ Refused
+pub pack-refuses : (r : Register) → packable r ≡ false → pack r ≡ Refused
 pack-refuses r e = rw e
 
 module _ (w : ℕ) where
-  unpacks : w < 262144 → fits (registerOf w) ≡ true → unpack w ≡ Shown (registerOf w)
+  unpacks : w < 262144 → packable (registerOf w) ≡ true → unpack w ≡ Shown (registerOf w)
   unpacks h e = rw (lt-leb 262144 w h, e)
 
   -- a word that shows a register is good, and that register is its own
   pub shown-own : (r : Register) → unpack w ≡ Shown r → r ≡ registerOf w
   shown-own r shown =
       let good : isGood (unpack w) ≡ true = ap isGood shown in
-      let own = unpacks (narrow w good) (good-fits w good) in
+      let own = unpacks (narrow w good) (good-packable w good) in
       let both : Shown r ≡ Shown (registerOf w) = sym shown ∙ own in
       cc
 
--- the word of a register that fits shows that register
-pub shows : (r : Register) → r .ticket .0 < 65536 → fits r ≡ true → unpack (wordOf r) ≡ Shown r
+-- the word of a packable register shows that register
+pub shows : (r : Register) → r .ticket .0 < 65536 → packable r ≡ true → unpack (wordOf r) ≡ Shown r
 shows r low e =
     let same = word-register r low in
-    unpacks (wordOf r) (word-narrow r low) (ap fits same ∙ e) ∙ ap Shown same
+    unpacks (wordOf r) (word-narrow r low) (ap packable same ∙ e) ∙ ap Shown same
 
 -- each register that is accepted reads back
 pub pack-unpack : (r : Register) (w : ℕ) → r .ticket .0 < 65536 → pack r ≡ Word w → unpack w ≡ Shown r
-pack-unpack r w low packed = go (fits r) refl
+pack-unpack r w low packed = go (packable r) refl
   where
-    go : (b : Bool) → fits r ≡ b → unpack w ≡ Shown r
+    go : (b : Bool) → packable r ≡ b → unpack w ≡ Shown r
     go true e =
         let both : Word w ≡ Word (wordOf r) = sym packed ∙ packs r e in
         let same : w ≡ wordOf r = cc in
@@ -56,7 +56,7 @@ pack-unpack r w low packed = go (fits r) refl
 pub unpack-pack : (w : ℕ) (r : Register) → unpack w ≡ Shown r → pack r ≡ Word w
 unpack-pack w r shown =
     let good : isGood (unpack w) ≡ true = ap isGood shown in
-    ap pack (shown-own w r shown) ∙ packs (registerOf w) (good-fits w good) ∙ ap Word (register-word w (narrow w good))
+    ap pack (shown-own w r shown) ∙ packs (registerOf w) (good-packable w good) ∙ ap Word (register-word w (narrow w good))
 
 -- the readings that 01 names
 pub ticket-zero : unpack 65536 ≡ Shown (record { ticket = ticket 0; valid = true; flag = false })

@@ -19,18 +19,18 @@ abbrev pub wordOf : Register → ℕ
 wordOf r = r .ticket .0 + 65536 * bit (r .valid) + 131072 * bit (r .flag)
 
 -- a register that a word can show: valid, or blank
-abbrev pub fits : Register → Bool
-fits r = r .valid || (eqb (r .ticket .0) 0 && not (r .flag))
+abbrev pub packable : Register → Bool
+packable r = r .valid || (eqb (r .ticket .0) 0 && not (r .flag))
 
 abbrev pub pack : Register → Packed
-pack r = cond (fits r) (Word (wordOf r)) Refused
+pack r = cond (packable r) (Word (wordOf r)) Refused
 
 -- the bits of a word, read back
 abbrev pub registerOf : ℕ → Register
 registerOf w = record { ticket = ticket (w % 65536); valid = eqb (w / 65536 % 2) 1; flag = eqb (w / 131072) 1 }
 
 abbrev pub unpack : ℕ → Unpacked
-unpack w = cond (leb 262144 w) Bad (cond (fits (registerOf w)) (Shown (registerOf w)) Bad)
+unpack w = cond (leb 262144 w) Bad (cond (packable (registerOf w)) (Shown (registerOf w)) Bad)
 
 -- a word that shows a register is good
 abbrev pub isGood : Unpacked → Bool

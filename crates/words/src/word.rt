@@ -3,7 +3,7 @@ use parts::Register;
 use ticket::Ticket;
 ghost use mathlib.Core.Path.{_≡_};
 ghost use Prim.Native.Nat.{_<_};
-ghost use Rattle.words.specs.Word.{bit, wordOf, fits, pack, registerOf, unpack};
+ghost use Rattle.words.specs.Word.{bit, wordOf, packable, pack, registerOf, unpack};
 
 // The word of a register, or 30: an invalid register has ticket 0 and no flag.
 pub enum Packed {
@@ -32,8 +32,8 @@ fn word_of(r: Register) -> u32
 }
 
 // Whether a register is one that a word can show: valid, or blank.
-fn fits(r: Register) -> bool
-    ensures { λ x. ⌜ x ≡ fits r ⌝ }
+fn packable(r: Register) -> bool
+    ensures { λ x. ⌜ x ≡ packable r ⌝ }
 {
     let t = r.ticket;
     r.valid | ((t.0 == 0) & !r.flag)
@@ -43,7 +43,7 @@ fn fits(r: Register) -> bool
 pub fn pack(r: Register) -> Packed
     ensures { λ x. ⌜ x ≡ pack r ⌝ }
 {
-    if fits(r) {
+    if packable(r) {
         Packed::Word(word_of(r))
     } else {
         Packed::Refused
@@ -70,7 +70,7 @@ pub fn unpack(w: u32) -> Unpacked
         return Unpacked::Refused;
     }
     let r = register_of(w);
-    if fits(r) {
+    if packable(r) {
         Unpacked::Register(r)
     } else {
         Unpacked::Refused

@@ -8,7 +8,9 @@ use digits::tabbed_width;
 use parts::Counts;
 use parts::Step;
 use parts::in_range;
+use ticket::CoreNo;
 use ticket::Ticket;
+use ticket::UnitNo;
 ghost use mathlib.Core.Path.{_≡_};
 ghost use Prim.Native.Nat.{_+_, _≤_};
 ghost use lib.ListN.{length};
@@ -18,21 +20,21 @@ ghost use Rattle.digits.specs.Room.{wrote, left};
 ghost use Rattle.writing.specs.Writing.{lettered, lettered2, stepBytes, headerBytes, wroteHeader, leftHeader};
 
 // The line of a letter and one number, where there is room.
-fn put_lettered(out: &mut [u8], at: usize, letter: u8, k: u16) -> usize
-    requires { ⌜ at + length (lettered letter k) ≤ length (now out) ⌝ }
-    ensures { λ r. ⌜ Puts (now (out .entry)) (now (out .exit)) at r (lettered letter k) ⌝ }
+fn put_lettered(out: &mut [u8], at: usize, letter: u8, k: CoreNo) -> usize
+    requires { ⌜ at + length (lettered letter (k .0)) ≤ length (now out) ⌝ }
+    ensures { λ r. ⌜ Puts (now (out .entry)) (now (out .exit)) at r (lettered letter (k .0)) ⌝ }
 {
     out[at] = letter;
-    let end = put_tabbed(out, at + 1, k);
+    let end = put_tabbed(out, at + 1, k.0);
     out[end] = b'\n';
     end + 1
 }
 
 // The line of a letter and one number.
-fn write_lettered(out: &mut [u8], at: usize, letter: u8, k: u16) -> Written
-    ensures { λ r. ⌜ (r ≡ wrote (now (out .entry)) at (lettered letter k)) × (now (out .exit) ≡ left (now (out .entry)) at (lettered letter k)) ⌝ }
+fn write_lettered(out: &mut [u8], at: usize, letter: u8, k: CoreNo) -> Written
+    ensures { λ r. ⌜ (r ≡ wrote (now (out .entry)) at (lettered letter (k .0))) × (now (out .exit) ≡ left (now (out .entry)) at (lettered letter (k .0))) ⌝ }
 {
-    if has_room(out.len(), at, tabbed_width(k) + 2) {
+    if has_room(out.len(), at, tabbed_width(k.0) + 2) {
         Written::Next(put_lettered(out, at, letter, k))
     } else {
         Written::NoRoom
@@ -40,22 +42,22 @@ fn write_lettered(out: &mut [u8], at: usize, letter: u8, k: u16) -> Written
 }
 
 // The line of a letter and two numbers, where there is room.
-fn put_lettered2(out: &mut [u8], at: usize, letter: u8, k: u16, u: u16) -> usize
-    requires { ⌜ at + length (lettered2 letter k u) ≤ length (now out) ⌝ }
-    ensures { λ r. ⌜ Puts (now (out .entry)) (now (out .exit)) at r (lettered2 letter k u) ⌝ }
+fn put_lettered2(out: &mut [u8], at: usize, letter: u8, k: CoreNo, u: UnitNo) -> usize
+    requires { ⌜ at + length (lettered2 letter (k .0) (u .0)) ≤ length (now out) ⌝ }
+    ensures { λ r. ⌜ Puts (now (out .entry)) (now (out .exit)) at r (lettered2 letter (k .0) (u .0)) ⌝ }
 {
     out[at] = letter;
-    let next = put_tabbed(out, at + 1, k);
-    let end = put_tabbed(out, next, u);
+    let next = put_tabbed(out, at + 1, k.0);
+    let end = put_tabbed(out, next, u.0);
     out[end] = b'\n';
     end + 1
 }
 
 // The line of a letter and two numbers.
-fn write_lettered2(out: &mut [u8], at: usize, letter: u8, k: u16, u: u16) -> Written
-    ensures { λ r. ⌜ (r ≡ wrote (now (out .entry)) at (lettered2 letter k u)) × (now (out .exit) ≡ left (now (out .entry)) at (lettered2 letter k u)) ⌝ }
+fn write_lettered2(out: &mut [u8], at: usize, letter: u8, k: CoreNo, u: UnitNo) -> Written
+    ensures { λ r. ⌜ (r ≡ wrote (now (out .entry)) at (lettered2 letter (k .0) (u .0))) × (now (out .exit) ≡ left (now (out .entry)) at (lettered2 letter (k .0) (u .0))) ⌝ }
 {
-    if has_room(out.len(), at, tabbed_width(k) + tabbed_width(u) + 2) {
+    if has_room(out.len(), at, tabbed_width(k.0) + tabbed_width(u.0) + 2) {
         Written::Next(put_lettered2(out, at, letter, k, u))
     } else {
         Written::NoRoom
@@ -117,11 +119,11 @@ pub fn write_step(out: &mut [u8], at: usize, s: Step) -> Written
     ensures { λ r. ⌜ (r ≡ wrote (now (out .entry)) at (stepBytes s)) × (now (out .exit) ≡ left (now (out .entry)) at (stepBytes s)) ⌝ }
 {
     match s {
-        Step::R(k, u) => write_lettered2(out, at, b'R', k.0, u.0),
-        Step::N(k, u) => write_lettered2(out, at, b'N', k.0, u.0),
-        Step::P(k) => write_lettered(out, at, b'P', k.0),
-        Step::I(k) => write_lettered(out, at, b'I', k.0),
-        Step::C(k) => write_lettered(out, at, b'C', k.0),
-        Step::L(k) => write_lettered(out, at, b'L', k.0),
+        Step::R(k, u) => write_lettered2(out, at, b'R', k, u),
+        Step::N(k, u) => write_lettered2(out, at, b'N', k, u),
+        Step::P(k) => write_lettered(out, at, b'P', k),
+        Step::I(k) => write_lettered(out, at, b'I', k),
+        Step::C(k) => write_lettered(out, at, b'C', k),
+        Step::L(k) => write_lettered(out, at, b'L', k),
     }
 }

@@ -8,6 +8,7 @@ const USAGE: &str = "usage: compare [STEPS [SEED]] [OPTION NUMBER]...
   --damaged N       damaged scripts in batches (50000)
   --singles N       damaged scripts with a process of their own (400)
   --others N        soundness, word and image cases (60000)
+  --methods N       steps by the table's methods (40000)
   --jobs N          processes at a time (the machine's, at most 4)
   --shrink-seconds N  time for shrinking a script that shows a difference (120)
   --limit N         seconds one process may take (600)
@@ -27,6 +28,7 @@ fn main() {
         damaged: 50_000,
         singles: 400,
         others: 60_000,
+        methods: 40_000,
         jobs: cores.min(4),
         shrink_seconds: 120,
         limit: 600,
@@ -48,6 +50,7 @@ fn main() {
             "--damaged" => options.damaged = value(),
             "--singles" => options.singles = value(),
             "--others" => options.others = value(),
+            "--methods" => options.methods = value(),
             "--jobs" => options.jobs = value().clamp(1, 64) as usize,
             "--shrink-seconds" => options.shrink_seconds = value(),
             "--limit" => options.limit = value(),

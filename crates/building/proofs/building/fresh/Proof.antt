@@ -1,28 +1,28 @@
--- `building::building::fresh` meets its contract: every register is what `blank` gives, every core what `idle` gives.
+-- `building::building::fresh` meets its contract: every unit is what `empty_unit` gives, every core what `idle` gives.
 use borrow.Author.Needs.{needs}
 use mathlib.Core.Path.{_≡_}
 use lib.ListN.{replicate}
 use Rattle.ticket.specs.declared.kinds.Ticket.{Ticket}
-use Rattle.parts.specs.Parts.{cores, units, blank, idle}
+use Rattle.parts.specs.Parts.{cores, units, emptyUnit, idle}
 use Rattle.building.specs.Build.{fresh}
 use Rattle.parts.specs.declared.kinds.Counts.{Counts}
-use Rattle.parts.specs.declared.kinds.Register.{Register}
+use Rattle.parts.specs.declared.kinds.LockUnit.{LockUnit}
 use Rattle.parts.specs.declared.kinds.Core.{Core}
 use Rattle.block.specs.declared.table.Table.{Table}
 use Rattle.building.proofs.building.fresh.Statement.{statement}
 use Rattle.building.proofs.building.fresh.Tie as tie
 
 made :
-    (n : Counts) (m : Ticket) (r : Register) (c : Core) →
-    r ≡ blank →
+    (n : Counts) (m : Ticket) (x : LockUnit) (c : Core) →
+    x ≡ emptyUnit →
     c ≡ idle →
     _≡_ {A = Table}
-    (record { units = replicate units (record { registers = replicate cores r }); cores = replicate cores c; counts = n; counter = m })
+    (record { units = replicate units x; cores = replicate cores c; counts = n; counter = m })
     (fresh n m)
-made n m r c bare none = rw (bare, none)
+made n m x c bare none = rw (bare, none)
 
-blank-requires : tie.Need-blank-requires
-blank-requires c κs = search needs
+empty-unit-requires : tie.Need-empty-unit-requires
+empty-unit-requires c κs = search needs
 
 idle-requires : tie.Need-idle-requires
 idle-requires c κs = search needs
@@ -31,4 +31,4 @@ returns : tie.Need-returns
 returns c = search made
 
 pub fresh-spec : {M : Type 1} → statement M
-fresh-spec = tie.close (tie.spec blank-requires idle-requires returns)
+fresh-spec = tie.close (tie.spec empty-unit-requires idle-requires returns)

@@ -10,17 +10,17 @@ use Rattle.parts.specs.declared.kinds.LockUnit.{LockUnit}
 use Rattle.parts.specs.declared.kinds.Register.{Register}
 use Rattle.parts.proofs.Folds.{none, finished}
 use Rattle.parts.proofs.Loops.{every-more}
-use Rattle.words.specs.Word.{fits}
+use Rattle.words.specs.Word.{packable}
 use Rattle.images.specs.Image.{wordCount, registerAt}
 use Rattle.images.proofs.image.all_fit.Statement.{statement}
 use Rattle.images.proofs.image.all_fit.Tie as tie
 
 abbrev fit : Counts → List LockUnit → ℕ → Bool
-fit c xs i = fits (registerAt c xs i)
+fit c xs i = packable (registerAt c xs i)
 
 module _ (c : Counts) (xs : List LockUnit) (i : ℕ) (ok : Bool) (so : ok ≡ every (fit c xs) i) where
-  turn : (r : Register) (b : Bool) → r ≡ registerAt c xs i → b ≡ fits r → (ok && b) ≡ every (fit c xs) (i + 1)
-  turn r b is says = every-more (fit c xs) i ok b so (says ∙ ap fits is)
+  turn : (r : Register) (b : Bool) → r ≡ registerAt c xs i → b ≡ packable r → (ok && b) ≡ every (fit c xs) (i + 1)
+  turn r b is says = every-more (fit c xs) i ok b so (says ∙ ap packable is)
 
   ended : (n : ℕ) → n ≡ wordCount c → i ≤ n → n ≤ i → ok ≡ every (fit c xs) (wordCount c)
   ended n is low high = finished (λ (k : ℕ) (b : Bool). b && fit c xs k) i n true ok so low high ∙ ap (every (fit c xs)) is

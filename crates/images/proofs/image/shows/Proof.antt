@@ -5,7 +5,7 @@ use mathlib.Core.Bool.{Bool, true, false}
 use mathlib.Core.Path.{_≡_, refl, sym, _∙_}
 use native.Mathlib.Omega.{arith}
 use Rattle.parts.specs.declared.kinds.Register.{Register}
-use Rattle.words.specs.Word.{fits, wordOf, pack}
+use Rattle.words.specs.Word.{packable, wordOf, pack}
 use Rattle.words.specs.declared.word.Packed.{Packed}
 use Rattle.words.specs.declared.word.Packed.the-variants.{Word, Refused}
 use Rattle.words.proofs.ReadsBack.{packs, pack-refuses}
@@ -13,20 +13,20 @@ use Rattle.images.proofs.image.shows.Statement.{statement}
 use Rattle.images.proofs.image.shows.Tie as tie
 
 module _ (r : Register) (x : Packed) (is : x ≡ pack r) where
-  word : (w : ℕ) → x ≡ Word w → true ≡ fits r
-  word w e = go (fits r) refl
+  word : (w : ℕ) → x ≡ Word w → true ≡ packable r
+  word w e = go (packable r) refl
     where
-      go : (b : Bool) → fits r ≡ b → true ≡ fits r
+      go : (b : Bool) → packable r ≡ b → true ≡ packable r
       go true f = sym f
       go false f =
           let both : Word w ≡ Refused = sym e ∙ is ∙ pack-refuses r f in
           let z : _≡_ {A = ℕ} 0 1 = cc in
           absurd (omega arith)
 
-  none : x ≡ Refused → false ≡ fits r
-  none e = go (fits r) refl
+  none : x ≡ Refused → false ≡ packable r
+  none e = go (packable r) refl
     where
-      go : (b : Bool) → fits r ≡ b → false ≡ fits r
+      go : (b : Bool) → packable r ≡ b → false ≡ packable r
       go true f =
           let both : Refused ≡ Word (wordOf r) = sym e ∙ is ∙ packs r f in
           let z : _≡_ {A = ℕ} 0 1 = cc in

@@ -6,14 +6,14 @@ use mathlib.Core.List.{List}
 use mathlib.Core.Path.{_≡_, _∙_, ap}
 use lib.ListN.{length, getD, set}
 use Rattle.parts.specs.Fold.{upTo}
-use Rattle.parts.specs.Parts.{noUnit}
+use Rattle.parts.specs.Parts.{absentUnit, registered}
 use Rattle.parts.specs.declared.kinds.Counts.{Counts}
 use Rattle.parts.specs.declared.kinds.LockUnit.{LockUnit}
 use Rattle.parts.specs.declared.kinds.Register.{Register}
 use Rattle.parts.proofs.Folds.{none, more, finished}
 use Rattle.words.specs.Word.{registerOf}
 use Rattle.images.specs.Image.{emptyUnits, placeWord, goodImage, unitsOf}
-use Rattle.images.proofs.Ranges.{divides, unit-in, unit-offset, core-in, core-offset}
+use Rattle.images.proofs.Ranges.{divides, unit-in, unit-offset, core-in, core-small}
 use Rattle.images.proofs.Good.{word-total, word-good, word-in}
 use Rattle.images.proofs.image.units_of.Statement.{statement}
 use Rattle.images.proofs.image.units_of.Tie as tie
@@ -30,12 +30,13 @@ started n ws xs e = e ∙ none (place n ws) emptyUnits
 
 module _ (n i : ℕ) (ws : List ℕ) (xs : List LockUnit) (so : xs ≡ placed n ws i) where
   turn :
-      (r : Register) →
+      (r : Register) (y : LockUnit) →
       r ≡ registerOf (getD ws i 0) →
-      set xs (i / n) (record { registers = set (getD xs (i / n) noUnit .registers) (i % n) r }) ≡ placed n ws (i + 1)
-  turn r is =
+      y ≡ registered (getD xs (i / n) absentUnit) (i % n) r →
+      set xs (i / n) y ≡ placed n ws (i + 1)
+  turn r y is so-unit =
       more (place n ws) i emptyUnits xs _ so
-      (ap (λ (z : Register). set xs (i / n) (record { registers = set (getD xs (i / n) noUnit .registers) (i % n) z })) is)
+      (ap (set xs (i / n)) (so-unit ∙ ap (registered (getD xs (i / n) absentUnit) (i % n)) is))
 
 ended :
     (c : Counts) (i : ℕ) (ws : List ℕ) (xs : List LockUnit) →
@@ -78,17 +79,17 @@ div-u c = search divides
 rem-k : tie.Need-rem-k Inv-loop μ-loop
 rem-k c = search divides
 
+cast-k : tie.Need-cast-k Inv-loop μ-loop
+cast-k c = search (core-small, word-in)
+
 mul-x : tie.Need-mul-x Inv-loop μ-loop
 mul-x c = search (unit-offset, word-in)
 
 array-copy-out-x : tie.Need-array-copy-out-x Inv-loop μ-loop
 array-copy-out-x c = search (unit-in, word-in)
 
-mul-r : tie.Need-mul-r Inv-loop μ-loop
-mul-r c = search (core-offset, word-in)
-
-element-set-from-r : tie.Need-element-set-from-r Inv-loop μ-loop
-element-set-from-r c = search (core-in, word-in)
+registered-requires : tie.Need-registered-requires Inv-loop μ-loop
+registered-requires c κs = search (core-in, word-in)
 
 mul-xs : tie.Need-mul-xs Inv-loop μ-loop
 mul-xs c = search (unit-offset, word-in)
@@ -122,10 +123,10 @@ units-of-spec =
     shown-requires
     div-u
     rem-k
+    cast-k
     mul-x
     array-copy-out-x
-    mul-r
-    element-set-from-r
+    registered-requires
     mul-xs
     array-set-from-xs
     add-i

@@ -1,18 +1,18 @@
--- `images::image::word_for` meets its contract: a register that fits is packed as its word.
+-- `images::image::word_for` meets its contract: a packable register is packed as its word.
 use borrow.Author.Needs.{needs}
 use Prim.Native.Nat.{ℕ}
 use mathlib.Core.Bool.{true}
 use mathlib.Core.Path.{_≡_, sym, _∙_}
 use native.Mathlib.Omega.{arith}
 use Rattle.parts.specs.declared.kinds.Register.{Register}
-use Rattle.words.specs.Word.{fits, wordOf, pack}
+use Rattle.words.specs.Word.{packable, wordOf, pack}
 use Rattle.words.specs.declared.word.Packed.{Packed}
 use Rattle.words.specs.declared.word.Packed.the-variants.{Word, Refused}
 use Rattle.words.proofs.ReadsBack.{packs}
 use Rattle.images.proofs.image.word_for.Statement.{statement}
 use Rattle.images.proofs.image.word_for.Tie as tie
 
-module _ (r : Register) (x : Packed) (is : x ≡ pack r) (fit : fits r ≡ true) where
+module _ (r : Register) (x : Packed) (is : x ≡ pack r) (fit : packable r ≡ true) where
   word : (w : ℕ) → x ≡ Word w → w ≡ wordOf r
   word w e =
       let both : Word w ≡ Word (wordOf r) = sym e ∙ is ∙ packs r fit in

@@ -8,7 +8,7 @@ use lib.Dec.{eqb}
 use Rattle.parts.specs.Fold.{every}
 use Rattle.parts.specs.declared.kinds.Counts.{Counts}
 use Rattle.parts.specs.declared.kinds.LockUnit.{LockUnit}
-use Rattle.words.specs.Word.{fits}
+use Rattle.words.specs.Word.{packable}
 use Rattle.images.specs.Image.{wordCount, registerAt, writable}
 use Rattle.images.proofs.image.writable.Statement.{statement}
 use Rattle.images.proofs.image.writable.Tie as tie
@@ -16,7 +16,7 @@ use Rattle.images.proofs.image.writable.Tie as tie
 judged :
     (c : Counts) (xs : List LockUnit) (room n : ℕ) (b : Bool) →
     n ≡ wordCount c →
-    b ≡ every (λ (i : ℕ). fits (registerAt c xs i)) (wordCount c) →
+    b ≡ every (λ (i : ℕ). packable (registerAt c xs i)) (wordCount c) →
     (eqb room n && b) ≡ writable c xs room
 judged c xs room n b is says = ap₂ (λ (m : ℕ) (a : Bool). eqb room m && a) is says
 

@@ -11,9 +11,9 @@ use Rattle.parts.specs.declared.kinds.Counts.{Counts}
 use Rattle.parts.specs.declared.kinds.LockUnit.{LockUnit}
 use Rattle.parts.specs.declared.kinds.Register.{Register}
 use Rattle.parts.proofs.Folds.{none, more, finished}
-use Rattle.words.specs.Word.{fits, wordOf}
+use Rattle.words.specs.Word.{packable, wordOf}
 use Rattle.images.specs.Image.{wordCount, registerAt, writable, wordsInto}
-use Rattle.images.proofs.Good.{room-total, register-fits}
+use Rattle.images.proofs.Good.{room-total, register-packable}
 use Rattle.images.proofs.image.write_words.Statement.{statement}
 use Rattle.images.proofs.image.write_words.Tie as tie
 
@@ -33,8 +33,8 @@ module _ (c : Counts) (xs : List LockUnit) (out : List ℕ) (able : writable c x
   within : length o ≡ length out → i < length o → i < wordCount c
   within same h = let t = room-total c xs (length out) able in omega arith
 
-  fit : (r : Register) → length o ≡ length out → i < length o → r ≡ registerAt c xs i → fits r ≡ true
-  fit r same h is = ap fits is ∙ register-fits c xs (length out) able i (within same h)
+  fit : (r : Register) → length o ≡ length out → i < length o → r ≡ registerAt c xs i → packable r ≡ true
+  fit r same h is = ap packable is ∙ register-packable c xs (length out) able i (within same h)
 
 abbrev Inv-loop : tie.InvT-loop
 Inv-loop c units out₀ i₀ out i = (i ≤ length out₀) × (length out ≡ length out₀) × (out ≡ upTo (put c units) i out₀)

@@ -8,6 +8,7 @@ use borrow.Author.Needs.{needs}
 use borrow.Author.Tests.{le-ltb, lt-ltb, eq-eqb, ne-eqb, not-true, not-false}
 use lib.Dec.{eqb}
 use lib.ListN.{length, getD}
+use Rattle.parts.specs.Parts.{coreNo, unitNo}
 use Rattle.parts.proofs.Bools.{and-left, and-right}
 use Rattle.numbers.specs.Bytes.{tab, end}
 use Rattle.lines.specs.ShortLine.{digit, shortLine}
@@ -50,7 +51,7 @@ module _ (s : List ℕ) (at : ℕ) where
       first-small : byte 2 - 48 < 65536
       first-small = omega (arith, first .1)
 
-      one : byte 3 ≡ 10 → One (getD s at 0) (byte 2 - 48) ≡ shortLine s at
+      one : byte 3 ≡ 10 → One (getD s at 0) (coreNo (byte 2 - 48)) ≡ shortLine s at
       one d = rw (le-ltb (length s - at) 6 l, opens, eq-eqb (byte 3) end d)
 
       module _ (d : byte 3 ≡ 10 → ⊥) (f : Bool) (is : f ≡ digit (byte 4)) where
@@ -70,7 +71,7 @@ module _ (s : List ℕ) (at : ℕ) where
           second-small : byte 4 - 48 < 65536
           second-small = omega (arith, second .1)
 
-          two : Two (getD s at 0) (byte 2 - 48) (byte 4 - 48) ≡ shortLine s at
+          two : Two (getD s at 0) (coreNo (byte 2 - 48)) (unitNo (byte 4 - 48)) ≡ shortLine s at
           two = rw (le-ltb (length s - at) 6 l, opens, ne-eqb (byte 3) end d, goes)
 
         other : (eqb (byte 3) 9 && f && eqb (byte 5) 10) ≡ false → Other ≡ shortLine s at
@@ -138,29 +139,29 @@ add-if4 c = search needs
 shared-slice-read-if4 : tie.Need-shared-slice-read-if4
 shared-slice-read-if4 c = search needs
 
-shared-slice-read-t24 : tie.Need-shared-slice-read-t24
-shared-slice-read-t24 c = search needs
+shared-slice-read-t25 : tie.Need-shared-slice-read-t25
+shared-slice-read-t25 c = search needs
 
-sub-t25 : tie.Need-sub-t25
-sub-t25 c =
+sub-t26 : tie.Need-sub-t26
+sub-t26 c =
     let b = c .before .before .before .before .before .before .before in
     let e = b .before .before .before .before .before .before in
     first-least (e .args .s .now) (e .args .at) (b .before .before .before .before .if1 .left) _ (b .before .digit .ensures) (b .if2 .left)
 
-cast-t26 : tie.Need-cast-t26
-cast-t26 c =
+cast-t27 : tie.Need-cast-t27
+cast-t27 c =
     let b = c .before .before .before .before .before .before .before in
     let e = b .before .before .before .before .before .before in
     omega (arith, first-small (e .args .s .now) (e .args .at) (b .before .before .before .before .if1 .left) _ (b .before .digit .ensures) (b .if2 .left))
 
-sub-t27 : tie.Need-sub-t27
-sub-t27 c =
+sub-t29 : tie.Need-sub-t29
+sub-t29 c =
     let b = c .before .before .before .before .before .before .before in
     let e = b .before .before .before .before .before .before in
     second-least (e .args .s .now) (e .args .at) (b .before .before .before .before .if1 .left) _ (b .before .digit .ensures) (b .if2 .left) (c .before .before .before .before .before .if3 .left) _ (c .before .before .before .digit2 .ensures) (c .before .if4 .taken)
 
-cast-t28 : tie.Need-cast-t28
-cast-t28 c =
+cast-t30 : tie.Need-cast-t30
+cast-t30 c =
     let b = c .before .before .before .before .before .before .before in
     let e = b .before .before .before .before .before .before in
     omega (arith, second-small (e .args .s .now) (e .args .at) (b .before .before .before .before .if1 .left) _ (b .before .digit .ensures) (b .if2 .left) (c .before .before .before .before .before .if3 .left) _ (c .before .before .before .digit2 .ensures) (c .before .if4 .taken))
@@ -200,10 +201,10 @@ short-line-spec =
     digit-requires-2
     add-if4
     shared-slice-read-if4
-    shared-slice-read-t24
-    sub-t25
-    cast-t26
-    sub-t27
-    cast-t28
+    shared-slice-read-t25
+    sub-t26
+    cast-t27
+    sub-t29
+    cast-t30
     returns-4
     returns-5)

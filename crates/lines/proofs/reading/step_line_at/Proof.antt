@@ -5,6 +5,8 @@ use mathlib.Core.Path.{_≡_, sym, _∙_, ap}
 use lib.ListN.{length}
 use borrow.Author.Tests.{le-leb}
 use borrow.Author.Needs.{needs}
+use Rattle.ticket.specs.declared.kinds.CoreNo.{CoreNo}
+use Rattle.ticket.specs.declared.kinds.UnitNo.{UnitNo}
 use Rattle.lines.specs.Reading.{oneNumber, twoNumbers, stepLine, readStep}
 use Rattle.lines.specs.ShortLine.{shortLine}
 use Rattle.lines.specs.declared.reading.Parsed.{Parsed}
@@ -21,10 +23,10 @@ module _ (s : List ℕ) (at : ℕ) where
   past h = rw (le-leb (length s) at h)
 
   module _ (w : Short) (says : w ≡ shortLine s at) (p : Parsed) (r : StepLine) where
-    one : (l k : ℕ) → w ≡ One l k → p ≡ oneNumber l k → r ≡ stepLine p (at + 4) → r ≡ readStep s at
+    one : (l : ℕ) (k : CoreNo) → w ≡ One l k → p ≡ oneNumber l (k .0) → r ≡ stepLine p (at + 4) → r ≡ readStep s at
     one l k e is so = so ∙ ap (λ (q : Parsed). stepLine q (at + 4)) is ∙ sym (short-one s at l k (sym says ∙ e))
 
-    two : (l k u : ℕ) → w ≡ Two l k u → p ≡ twoNumbers l k u → r ≡ stepLine p (at + 6) → r ≡ readStep s at
+    two : (l : ℕ) (k : CoreNo) (u : UnitNo) → w ≡ Two l k u → p ≡ twoNumbers l (k .0) (u .0) → r ≡ stepLine p (at + 6) → r ≡ readStep s at
     two l k u e is so = so ∙ ap (λ (q : Parsed). stepLine q (at + 6)) is ∙ sym (short-two s at l k u (sym says ∙ e))
 
 returns : tie.Need-returns

@@ -1,18 +1,17 @@
--- `places::place::in_units` meets its contract: a number of the array is its own place.
-use mathlib.Core.Path.{refl}
-use native.Mathlib.Omega.{arith}
-use Rattle.parts.specs.Parts.{units}
-use Rattle.places.proofs.Placing.{placed, past}
+-- `places::place::in_units` meets its contract: the number itself where it is below the array's length.
+use borrow.Author.Needs.{needs}
+use borrow.Author.Tests.{lt-ltb, le-ltb}
 use Rattle.places.proofs.place.in_units.Statement.{statement}
 use Rattle.places.proofs.place.in_units.Tie as tie
 
+cast-i : tie.Need-cast-i
+cast-i c = search needs
+
 returns : tie.Need-returns
-returns c =
-    let b = c .before in placed units (b .args .u) _ refl (c .if1 .taken)
+returns c = rw (lt-ltb _ _ (c .if1 .taken))
 
 returns-2 : tie.Need-returns-2
-returns-2 c =
-    let b = c .before in past units (b .args .u) (b .args .u) refl (omega (arith, c .if1 .left))
+returns-2 c = rw (le-ltb _ _ (c .if1 .left))
 
 pub in-units-spec : {M : Type 1} → statement M
-in-units-spec = tie.close (tie.spec returns returns-2)
+in-units-spec = tie.close (tie.spec cast-i returns returns-2)

@@ -7,15 +7,15 @@ use Rattle.ticket.specs.declared.kinds.CoreNo.{CoreNo}
 use Rattle.ticket.specs.declared.kinds.Ticket.{Ticket}
 use Rattle.ticket.specs.declared.kinds.UnitNo.{UnitNo}
 use Rattle.parts.specs.Answer.{packed}
-use Rattle.plan.specs.Settle.{won}
-use Rattle.plan.specs.declared.settle.Best.{Best}
-use Rattle.plan.specs.declared.settle.Best.the-variants.{Core}
+use Rattle.settling.specs.Line.{won}
+use Rattle.settling.specs.declared.line.Best.{Best}
+use Rattle.settling.specs.declared.line.Best.the-variants.{Won}
 use Rattle.parts.specs.declared.answer.Grants.the-variants.{One}
 use Rattle.plan.proofs.grants.one_grant.Statement.{statement}
 use Rattle.plan.proofs.grants.one_grant.Tie as tie
 
 somebody :
-    (u : UnitNo) (w : Best) (k : CoreNo) (n : Ticket) (g : Grant) → w ≡ Core k n → g ≡ grant u k → One g ≡ packed (won (u .0) w)
+    (u : UnitNo) (w : Best) (k : CoreNo) (n : Ticket) (g : Grant) → w ≡ Won k n → g ≡ grant u k → One g ≡ packed (won (u .0) w)
 somebody u w k n g e so = rw (e, so)
 
 enum-told : tie.Need-enum-told

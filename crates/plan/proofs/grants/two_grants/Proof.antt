@@ -8,9 +8,9 @@ use Rattle.ticket.specs.declared.kinds.CoreNo.{CoreNo}
 use Rattle.ticket.specs.declared.kinds.Ticket.{Ticket}
 use Rattle.ticket.specs.declared.kinds.UnitNo.{UnitNo}
 use Rattle.parts.specs.Answer.{packed}
-use Rattle.plan.specs.Settle.{won}
-use Rattle.plan.specs.declared.settle.Best.{Best}
-use Rattle.plan.specs.declared.settle.Best.the-variants.{Nobody, Core}
+use Rattle.settling.specs.Line.{won}
+use Rattle.settling.specs.declared.line.Best.{Best}
+use Rattle.settling.specs.declared.line.Best.the-variants.{Nobody, Won}
 use Rattle.parts.specs.declared.answer.Grants.{Grants}
 use Rattle.parts.specs.declared.answer.Grants.the-variants.{One, Two}
 use Rattle.plan.proofs.grants.two_grants.Statement.{statement}
@@ -20,12 +20,12 @@ module _ (u v : UnitNo) (w x : Best) where
   second : (r : Grants) → w ≡ Nobody → r ≡ packed (won (v .0) x) → r ≡ packed (won (u .0) w ++ won (v .0) x)
   second r e so = rw e so
 
-  module _ (k : CoreNo) (n : Ticket) (g : Grant) (is : w ≡ Core k n) (so : g ≡ grant u k) where
+  module _ (k : CoreNo) (n : Ticket) (g : Grant) (is : w ≡ Won k n) (so : g ≡ grant u k) where
     first : x ≡ Nobody → One g ≡ packed (won (u .0) w ++ won (v .0) x)
     first e = rw (is, e, so)
 
     twice :
-        (j : CoreNo) (m : Ticket) (h : Grant) → x ≡ Core j m → h ≡ grant v j → Two g h ≡ packed (won (u .0) w ++ won (v .0) x)
+        (j : CoreNo) (m : Ticket) (h : Grant) → x ≡ Won j m → h ≡ grant v j → Two g h ≡ packed (won (u .0) w ++ won (v .0) x)
     twice j m h e has = rw (is, e, so, has)
 
 enum-told : tie.Need-enum-told

@@ -1,11 +1,18 @@
 -- `plan::planning::plan_step` meets its contract: the verdict decides.
 use borrow.Author.Needs.{needs}
-use Rattle.plan.proofs.Deciding.{in-cores, refuses-plan, allows-plan}
+use Prim.Native.Nat.{_<_}
+use mathlib.Core.Path.{_≡_, sym, subst}
+use Rattle.ticket.specs.declared.kinds.CoreNo.{CoreNo}
+use Rattle.parts.specs.Parts.{cores}
+use Rattle.parts.specs.declared.answer.Step.{Step}
+use Rattle.places.specs.Places.{corePlace}
+use Rattle.places.proofs.Placing.{core-place-within}
+use Rattle.plan.proofs.Deciding.{refuses, allows}
 use Rattle.plan.proofs.planning.plan_step.Statement.{statement}
 use Rattle.plan.proofs.planning.plan_step.Tie as tie
 
-core-of-requires : tie.Need-core-of-requires
-core-of-requires c κs = search needs
+in-cores : (s : Step) (k : CoreNo) → k ≡ corePlace s → k .0 < cores
+in-cores s k at = subst (λ (j : CoreNo). j .0 < cores) (sym at) (core-place-within s)
 
 judge-requires : tie.Need-judge-requires
 judge-requires c κs = search needs
@@ -14,39 +21,42 @@ enum-known-a : tie.Need-enum-known-a
 enum-known-a c = search needs
 
 refuse-requires : tie.Need-refuse-requires
-refuse-requires c κs =
-    let b = c .before .before .before .before in
-    in-cores (b .before .args .s) _ (b .core-of .ensures)
+refuse-requires c κs = search needs
 
 enum-told : tie.Need-enum-told
 enum-told c = search needs
 
-allowed-requires : tie.Need-allowed-requires
-allowed-requires c κs =
-    let b = c .before .before .before in
-    in-cores (b .before .args .s) _ (b .core-of .ensures)
+core-place-requires : tie.Need-core-place-requires
+core-place-requires c κs = search needs
+
+step-effect-requires : tie.Need-step-effect-requires
+step-effect-requires c κs = (search needs, in-cores (c .before .before .before .before .args .s) _ (c .core-place .ensures))
+
+carry-out-requires : tie.Need-carry-out-requires
+carry-out-requires c κs = (search needs, in-cores (c .before .before .before .before .before .args .s) _ (c .before .core-place .ensures))
 
 returns : tie.Need-returns
 returns c =
-    let b = c .before .before .before .before .before in
-    let a = b .before .args in
-    refuses-plan (a .s) (a .counts) (a .counter) (a .all) (a .c) (a .x) (a .y) _ _ _ (b .core-of .ensures) (c .before .before .before .before .judge .ensures) _ (c .before .before .a .given .1) (c .refuse .ensures)
+    let a = c .before .before .before .before .before .args in
+    refuses (a .s) (a .counts) (a .counter) (a .all) (a .c) (a .x) (a .y) _ _ (c .before .before .before .before .judge .ensures) _
+    (c .before .before .a .given .1) (c .refuse .ensures)
 
 returns-2 : tie.Need-returns-2
 returns-2 c =
-    let b = c .before .before .before .before in
-    let a = b .before .args in
-    allows-plan (a .s) (a .counts) (a .counter) (a .all) (a .c) (a .x) (a .y) _ _ _ (b .core-of .ensures) (c .before .before .before .judge .ensures) (c .before .enum-told .given .1) (c .allowed .ensures)
+    let a = c .before .before .before .before .before .before .args in
+    allows (a .s) (a .counts) (a .counter) (a .all) (a .c) (a .x) (a .y) _ _ (c .before .before .before .before .before .judge .ensures) _ _
+    (c .before .before .before .enum-told .given .1) (c .before .before .core-place .ensures) (c .before .step-effect .ensures) (c .carry-out .ensures)
 
 pub plan-step-spec : {M : Type 1} → statement M
 plan-step-spec =
     tie.close
     (tie.spec
-    core-of-requires
     judge-requires
     enum-known-a
     refuse-requires
     enum-told
-    allowed-requires
+    core-place-requires
+    step-effect-requires
+    carry-out-requires
     returns
     returns-2)

@@ -8,13 +8,13 @@ use Rattle.ticket.specs.declared.kinds.Ticket.{Ticket}
 use Rattle.parts.specs.declared.kinds.Core.{Core}
 use Rattle.parts.specs.declared.kinds.Counts.{Counts}
 use Rattle.parts.specs.declared.answer.Step.{Step}
-use Rattle.refusals.specs.Judged.{inState, judged}
+use Rattle.refusals.specs.Judge.{inState, judge}
 use Rattle.refusals.specs.declared.verdict.Verdict.{Verdict}
 use Rattle.refusals.proofs.verdict.judge.Statement.{statement}
 use Rattle.refusals.proofs.verdict.judge.Tie as tie
 
-by-letter : (s s' : Step) (n : Counts) (m : Ticket) (cs : List Core) (c : Core) (v : Verdict) → s ≡ s' → v ≡ judged s' n m cs c → v ≡ judged s n m cs c
-by-letter s s' n m cs c v e is = is ∙ ap (λ (z : Step). judged z n m cs c) (sym e)
+by-letter : (s s' : Step) (n : Counts) (m : Ticket) (cs : List Core) (c : Core) (v : Verdict) → s ≡ s' → v ≡ judge s' n m cs c → v ≡ judge s n m cs c
+by-letter s s' n m cs c v e is = is ∙ ap (λ (z : Step). judge z n m cs c) (sym e)
 
 -- the state, as its test gave it
 stated : (n : Counts) (k : CoreNo) (b d : Bool) (v : Verdict) → b ≡ d → v ≡ inState n k b → v ≡ inState n k d

@@ -23,6 +23,9 @@ holds-one-requires c κs = search needs
 returns-3 : tie.Need-returns-3
 returns-3 c = search (due, further, flipped, needs) depth 9
 
+wrong-class-requires : tie.Need-wrong-class-requires
+wrong-class-requires c κs = search needs
+
 returns-4 : tie.Need-returns-4
 returns-4 c = search (due, further, flipped, needs) depth 9
 
@@ -39,5 +42,6 @@ may-nest-spec =
     returns-2
     holds-one-requires
     returns-3
+    wrong-class-requires
     returns-4
     returns-5)

@@ -6,7 +6,7 @@ use mathlib.Core.Path.{_≡_, _∙_, ap, ap₂}
 use Rattle.ticket.specs.Order.{behind, topBit}
 use Rattle.ticket.specs.declared.kinds.Ticket.{Ticket}
 use Rattle.parts.specs.State.{isIdle}
-use Rattle.refusals.specs.Judged.{aged}
+use Rattle.refusals.specs.Judge.{old}
 use Rattle.parts.specs.declared.kinds.Core.{Core}
 use Rattle.refusals.proofs.verdict.old.Statement.{statement}
 use Rattle.refusals.proofs.verdict.old.Tie as tie
@@ -16,7 +16,7 @@ joined :
     b ≡ isIdle (c .state) →
     d ≡ behind (n .0) (c .own .0) →
     r ≡ topBit d →
-    (not b && r) ≡ aged n c
+    (not b && r) ≡ old n c
 joined c n d b r idle distance top = ap₂ _&&_ (ap not idle) (top ∙ ap topBit distance)
 
 is-idle-requires : tie.Need-is-idle-requires

@@ -6,7 +6,7 @@ use mathlib.Core.List.{List}
 use mathlib.Core.Path.{_≡_, sym, _∙_}
 use lib.ListN.{getD}
 use Rattle.ticket.specs.declared.kinds.Ticket.{Ticket}
-use Rattle.refusals.specs.Judged.{aged, anyAged}
+use Rattle.refusals.specs.Judge.{old, stretched}
 use Rattle.parts.specs.Parts.{cores, idle}
 use Rattle.parts.specs.declared.kinds.Core.{Core}
 use Rattle.parts.proofs.Folds.{none, finished, at-some}
@@ -14,15 +14,15 @@ use Rattle.parts.proofs.Loops.{some-more}
 use Rattle.refusals.proofs.verdict.stretched.Statement.{statement}
 use Rattle.refusals.proofs.verdict.stretched.Tie as tie
 
-module _ (m : Ticket) (cs : List Core) (k : ℕ) (b : Bool) (says : b ≡ aged m (getD cs k idle)) where
-  found : (n : ℕ) → k < n → b ≡ true → true ≡ anyAged m cs n
-  found n h e = sym (at-some (λ (i : ℕ). aged m (getD cs i idle)) n k h (sym says ∙ e))
+module _ (m : Ticket) (cs : List Core) (k : ℕ) (b : Bool) (says : b ≡ old m (getD cs k idle)) where
+  found : (n : ℕ) → k < n → b ≡ true → true ≡ stretched m cs n
+  found n h e = sym (at-some (λ (i : ℕ). old m (getD cs i idle)) n k h (sym says ∙ e))
 
-  passed : false ≡ anyAged m cs k → b ≡ false → false ≡ anyAged m cs (k + 1)
-  passed so e = sym e ∙ some-more (λ (i : ℕ). aged m (getD cs i idle)) k false b so says
+  passed : false ≡ stretched m cs k → b ≡ false → false ≡ stretched m cs (k + 1)
+  passed so e = sym e ∙ some-more (λ (i : ℕ). old m (getD cs i idle)) k false b so says
 
 abbrev Inv-loop : tie.InvT-loop
-Inv-loop counter all n k₀ k = (n ≤ cores) × (k ≤ n) × (false ≡ anyAged counter all k)
+Inv-loop counter all n k₀ k = (n ≤ cores) × (k ≤ n) × (false ≡ stretched counter all k)
 
 abbrev μ-loop : tie.MeasureT-loop
 μ-loop counter all n k₀ k = n - k

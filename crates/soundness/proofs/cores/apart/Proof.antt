@@ -1,4 +1,4 @@
--- `soundness::cores::apart` meets its contract: after j turns, ok says whether the first j cores differ from core k.
+-- `soundness::cores::apart` meets its contract: after i turns, ok says whether the first i cores differ from core k.
 use borrow.Author.Needs.{needs}
 use Prim.Native.Nat.{ℕ, _≤_, _-_}
 use mathlib.Core.Path.{_≡_}
@@ -12,10 +12,10 @@ use Rattle.soundness.proofs.cores.apart.Statement.{statement}
 use Rattle.soundness.proofs.cores.apart.Tie as tie
 
 abbrev Inv-loop : tie.InvT-loop
-Inv-loop k c all ok₀ j₀ ok j = (j ≤ cores) × (ok ≡ every (λ (i : ℕ). differ k c i (getD all i idle)) j)
+Inv-loop k c all ok₀ i₀ ok i = (i ≤ cores) × (ok ≡ every (λ (j : ℕ). differ (k .0) c j (getD all j idle)) i)
 
 abbrev μ-loop : tie.MeasureT-loop
-μ-loop k c all ok₀ j₀ ok j = cores - j
+μ-loop k c all ok₀ i₀ ok i = cores - i
 
 loop-holds : tie.Need-loop-holds Inv-loop μ-loop
 loop-holds c = search (none, needs)
@@ -26,11 +26,14 @@ mul-d c = search needs
 array-copy-out-d : tie.Need-array-copy-out-d Inv-loop μ-loop
 array-copy-out-d c = search needs
 
+cast-j : tie.Need-cast-j Inv-loop μ-loop
+cast-j c = search needs
+
 differ-requires : tie.Need-differ-requires Inv-loop μ-loop
 differ-requires c κs = search needs
 
-add-j : tie.Need-add-j Inv-loop μ-loop
-add-j c = search needs
+add-i : tie.Need-add-i Inv-loop μ-loop
+add-i c = search needs
 
 loop-less : tie.Need-loop-less Inv-loop μ-loop
 loop-less c = search needs
@@ -50,8 +53,9 @@ apart-spec =
     loop-holds
     mul-d
     array-copy-out-d
+    cast-j
     differ-requires
-    add-j
+    add-i
     loop-less
     loop-again
     returns)

@@ -5,6 +5,9 @@ use Rattle.parts.proofs.Bools.{both}
 use Rattle.soundness.proofs.cores.core_sound.Statement.{statement}
 use Rattle.soundness.proofs.cores.core_sound.Tie as tie
 
+cast-i : tie.Need-cast-i
+cast-i c = search needs
+
 mul-c : tie.Need-mul-c
 mul-c c = search needs
 
@@ -37,6 +40,7 @@ pub core-sound-spec : {M : Type 1} → statement M
 core-sound-spec =
     tie.close
     (tie.spec
+    cast-i
     mul-c
     array-copy-out-c
     within-requires

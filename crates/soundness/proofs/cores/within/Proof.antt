@@ -4,9 +4,6 @@ use Rattle.parts.proofs.Bools.{either}
 use Rattle.soundness.proofs.cores.within.Statement.{statement}
 use Rattle.soundness.proofs.cores.within.Tie as tie
 
-cast-n : tie.Need-cast-n
-cast-n c = search needs
-
 is-idle-requires : tie.Need-is-idle-requires
 is-idle-requires c κs = search needs
 
@@ -14,4 +11,4 @@ returns : tie.Need-returns
 returns c = search (either, needs)
 
 pub within-spec : {M : Type 1} → statement M
-within-spec = tie.close (tie.spec cast-n is-idle-requires returns)
+within-spec = tie.close (tie.spec is-idle-requires returns)

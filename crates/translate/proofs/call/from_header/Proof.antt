@@ -21,12 +21,12 @@ write-opening-requires c κs = search needs
 enum-known-w : tie.Need-enum-known-w
 enum-known-w c = search needs
 
-opened-requires : tie.Need-opened-requires
-opened-requires c κs = search needs
+fresh-run-requires : tie.Need-fresh-run-requires
+fresh-run-requires c κs = search needs
 
 step-lines-requires : tie.Need-step-lines-requires
 step-lines-requires c κs =
-    let q = c .before .opened .ensures in
+    let q = c .before .fresh-run .ensures in
     let g = c .before .before .before .before .before .before .before .before .before .before .counts .given .0 in
     (ap (λ (r : Run). r .headed) q, sym (ap (λ (r : Run). sound (r .table)) q ∙ build-sound (g .0) (g .1 .0)))
 
@@ -52,7 +52,7 @@ returns c =
     let g = c .before .before .before .before .before .before .before .before .before .before .before .before .before .counts .given in
     let o = c .before .before .before .before .before .before .before .before .before .before .write-opening in
     let w = c .before .before .before .before .before .before .w .given in
-    let q = c .before .before .before .before .opened in
+    let q = c .before .before .before .before .fresh-run in
     opened-by (a .args .run) (a .args .script .now) (a .args .out .now) (a .pre) (h .result) (h .ensures) (g .0 .0) (g .0 .1 .0) (g .0 .1 .1 .0) (g .1) (o .result) _ (o .ensures) (w .0 .0) (q .result) _ _ (w .1) (q .ensures) (c .before .before .step-lines .ensures)
 
 same-length-2 : tie.Need-same-length-2
@@ -97,7 +97,7 @@ from-header-spec =
     enum-known-counts
     write-opening-requires
     enum-known-w
-    opened-requires
+    fresh-run-requires
     step-lines-requires
     enum-told
     enum-told-2

@@ -1,23 +1,23 @@
--- `words::word::pack` meets its contract: the case that `fits` says, with the word that `word_of` gives.
+-- `words::word::pack` meets its contract: the case that `packable` says, with the word that `word_of` gives.
 use borrow.Author.Needs.{needs}
 use Prim.Native.Nat.{ℕ}
 use mathlib.Core.Bool.{Bool, true, false}
 use mathlib.Core.Path.{_≡_, sym, _∙_}
 use Rattle.parts.specs.declared.kinds.Register.{Register}
-use Rattle.words.specs.Word.{fits, wordOf, pack}
+use Rattle.words.specs.Word.{packable, wordOf, pack}
 use Rattle.words.specs.declared.word.Packed.the-variants.{Word, Refused}
 use Rattle.words.proofs.word.pack.Statement.{statement}
 use Rattle.words.proofs.word.pack.Tie as tie
 
-module _ (r : Register) (b : Bool) (says : b ≡ fits r) where
+module _ (r : Register) (b : Bool) (says : b ≡ packable r) where
   packed : (w : ℕ) → b ≡ true → w ≡ wordOf r → Word w ≡ pack r
   packed w e is = rw (sym says ∙ e, is)
 
   refused : b ≡ false → Refused ≡ pack r
   refused e = rw (sym says ∙ e)
 
-fits-requires : tie.Need-fits-requires
-fits-requires c κs = search needs
+packable-requires : tie.Need-packable-requires
+packable-requires c κs = search needs
 
 word-of-requires : tie.Need-word-of-requires
 word-of-requires c κs = search needs
@@ -29,4 +29,4 @@ returns-2 : tie.Need-returns-2
 returns-2 c = search refused
 
 pub pack-spec : {M : Type 1} → statement M
-pack-spec = tie.close (tie.spec fits-requires word-of-requires returns returns-2)
+pack-spec = tie.close (tie.spec packable-requires word-of-requires returns returns-2)

@@ -53,7 +53,7 @@ returns-2 c =
     let a = c .before .before .before .before .args in
     let wide = c .before .before .tabbed-width in
     let fits = c .before .has-room in
-    none (a .out .now) (a .at) (a .letter) (a .k) (wide .result) (fits .result) (wide .ensures) (fits .ensures) (c .if1 .left)
+    none (a .out .now) (a .at) (a .letter) (a .k .0) (wide .result) (fits .result) (wide .ensures) (fits .ensures) (c .if1 .left)
 
 pub write-lettered-spec : {M : Type 1} → statement M
 write-lettered-spec =

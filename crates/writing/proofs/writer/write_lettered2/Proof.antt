@@ -61,7 +61,7 @@ returns-2 c =
     let wide = c .before .before .before .tabbed-width in
     let wider = c .before .before .tabbed-width2 in
     let fits = c .before .has-room in
-    none (a .out .now) (a .at) (a .letter) (a .k) (a .u) (wide .result) (wider .result) (fits .result) (wide .ensures) (wider .ensures)
+    none (a .out .now) (a .at) (a .letter) (a .k .0) (a .u .0) (wide .result) (wider .result) (fits .result) (wide .ensures) (wider .ensures)
     (fits .ensures) (c .if1 .left)
 
 pub write-lettered2-spec : {M : Type 1} → statement M

@@ -2,8 +2,7 @@
 use borrow.Author.Needs.{needs}
 use mathlib.Core.Path.{sym, _∙_, ap}
 use mathlib.Core.Bool.{Bool, cond}
-use Rattle.block.specs.Verdict.{refusal}
-use Rattle.block.specs.Steps.{onSound, step}
+use Rattle.block.specs.Steps.{onSound, step, refusal}
 use Rattle.parts.specs.declared.answer.Answer.the-variants.{Unsound}
 use Rattle.block.proofs.table.Table.step.Statement.{statement}
 use Rattle.block.proofs.table.Table.step.Tie as tie

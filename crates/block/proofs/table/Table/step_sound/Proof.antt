@@ -1,125 +1,86 @@
--- `Table::step_sound` meets its contract: the places are those of the arrays, and the step by its parts is the step.
+-- `block::table::Table::step_sound` meets its contract: the places are within the arrays, and the plan put back is the step.
 use borrow.Author.Needs.{needs}
-use Prim.Native.Nat.{ℕ, _<_}
-use mathlib.Core.Bool.{true}
-use mathlib.Core.Path.{_≡_, sym, _∙_, ap, subst}
-use native.Mathlib.Omega.{arith}
-use Rattle.parts.specs.Parts.{cores, units}
-use Rattle.block.specs.Table.{coreOf, unitOf}
-use Rattle.block.specs.Sound.{sound}
-use Rattle.block.specs.Steps.{onSound}
-use Rattle.places.specs.Places.{corePlace, unitPlace, otherPlace}
-use Rattle.plan.specs.Plan.{planned}
-use Rattle.block.specs.PutBack.{steppedBy}
-use Rattle.parts.specs.declared.answer.Step.{Step}
-use Rattle.block.specs.declared.stepped.Stepped.{Stepped}
-use Rattle.plan.specs.declared.planning.Plan.{Plan}
-use Rattle.parts.specs.declared.kinds.Core.{Core}
-use Rattle.block.specs.declared.table.Table.{Table}
-use Rattle.block.proofs.Parts.{parts}
-use Rattle.parts.proofs.Ranging.{cores-few}
-use Rattle.places.proofs.Placing.{core-place-within, unit-place-within, other-place-within}
-use Rattle.block.proofs.ByParts.{by-parts}
+use Rattle.block.specs.Table.{coreOf}
+use Rattle.block.proofs.Held.{held}
+use Rattle.block.proofs.InPlace.{core-in, unit-in, other-in, counted, in-place}
 use Rattle.block.proofs.table.Table.step_sound.Statement.{statement}
 use Rattle.block.proofs.table.Table.step_sound.Tie as tie
 
--- places of the arrays
-core-in : (s : Step) (k : ℕ) → k ≡ corePlace s → k < cores
-core-in s k e = subst (λ (i : ℕ). i < cores) (sym e) (core-place-within s)
+core-place-requires : tie.Need-core-place-requires
+core-place-requires c κs = search needs
 
-unit-in : (s : Step) (c : Core) (i : ℕ) → i ≡ unitPlace s c → i < units
-unit-in s c i e = subst (λ (u : ℕ). u < units) (sym e) (unit-place-within s c)
-
-other-in : (s : Step) (c : Core) (j : ℕ) → j ≡ otherPlace s c → j < units
-other-in s c j e = subst (λ (u : ℕ). u < units) (sym e) (other-place-within s c)
-
-module _ (t : Table) (s : Step) (fit : sound t ≡ true) where
-  -- the step with its core at place k and its units at i and j
-  abbrev at : ℕ → ℕ → ℕ → Stepped
-  at k i j = steppedBy t k i j (planned s (t .counts) (t .counter) (t .cores) (coreOf t k) (unitOf t i) (unitOf t j))
-
-  whole :
-      (k i j : ℕ) (p : Plan) (r : Stepped) →
-      k ≡ corePlace s →
-      i ≡ unitPlace s (coreOf t k) →
-      j ≡ otherPlace s (coreOf t k) →
-      p ≡ planned s (t .counts) (t .counter) (t .cores) (coreOf t k) (unitOf t i) (unitOf t j) →
-      r ≡ steppedBy t k i j p →
-      r ≡ onSound t s
-  whole k i j p r ek ei ej ep er =
-      er ∙
-      ap (steppedBy t k i j) ep ∙
-      ap (at k i) ej ∙
-      ap (λ (u : ℕ). at k u (otherPlace s (coreOf t k))) ei ∙
-      ap (λ (n : ℕ). at n (unitPlace s (coreOf t n)) (otherPlace s (coreOf t n))) ek ∙
-      by-parts t s fit
-
-core-of-requires : tie.Need-core-of-requires
-core-of-requires c κs = search needs
+cast-at : tie.Need-cast-at
+cast-at c = search needs
 
 mul-c : tie.Need-mul-c
-mul-c c = omega (arith, core-in (c .before .before .before .before .args .s) (c .core-of .result) (c .core-of .ensures))
+mul-c c = search needs
 
-array-copy-out-c : tie.Need-array-copy-out-c
-array-copy-out-c c = core-in (c .before .before .before .before .args .s) (c .core-of .result) (c .core-of .ensures)
+element-copy-out-c : tie.Need-element-copy-out-c
+element-copy-out-c c = core-in (c .before .before .args .s) _ (c .before .core-place .ensures)
 
-unit-of-requires : tie.Need-unit-of-requires
-unit-of-requires c κs = search needs
+unit-place-requires : tie.Need-unit-place-requires
+unit-place-requires c κs = search needs
 
-other-of-requires : tie.Need-other-of-requires
-other-of-requires c κs = search needs
+other-place-requires : tie.Need-other-place-requires
+other-place-requires c κs = search needs
+
+cast-first : tie.Need-cast-first
+cast-first c = search needs
+
+cast-second : tie.Need-cast-second
+cast-second c = search needs
 
 mul-x : tie.Need-mul-x
-mul-x c =
-    let b = c .before .before .before .before .before .before .before .args in
-    omega (arith, unit-in (b .s) (coreOf (b .t1) (c .before .before .before .core-of .result)) (c .before .unit-of .result) (c .before .unit-of .ensures))
+mul-x c = search needs
 
 element-copy-out-x : tie.Need-element-copy-out-x
 element-copy-out-x c =
-    let b = c .before .before .before .before .before .before .before .args in
-    unit-in (b .s) (coreOf (b .t1) (c .before .before .before .core-of .result)) (c .before .unit-of .result) (c .before .unit-of .ensures)
+    let a = c .before .before .before .before .before .before .before .args in
+    unit-in (a .s) (coreOf (a .t1) (c .before .before .before .before .before .before .core-place .result .0)) _ (c .before .before .before .unit-place .ensures)
 
 mul-y : tie.Need-mul-y
-mul-y c =
-    let b = c .before .before .before .before .before .before .before .before .args in
-    omega (arith, other-in (b .s) (coreOf (b .t1) (c .before .before .before .before .core-of .result)) (c .before .other-of .result) (c .before .other-of .ensures))
+mul-y c = search needs
 
 element-copy-out-y : tie.Need-element-copy-out-y
 element-copy-out-y c =
-    let b = c .before .before .before .before .before .before .before .before .args in
-    other-in (b .s) (coreOf (b .t1) (c .before .before .before .before .core-of .result)) (c .before .other-of .result) (c .before .other-of .ensures)
+    let a = c .before .before .before .before .before .before .before .before .args in
+    other-in (a .s) (coreOf (a .t1) (c .before .before .before .before .before .before .before .core-place .result .0)) _ (c .before .before .before .other-place .ensures)
 
 plan-step-requires : tie.Need-plan-step-requires
-plan-step-requires c κs =
-    let b = c .before .before .before .before .before .before .before .before .before in
-    cores-few (b .args .t1 .counts) (parts (b .args .t1) (b .pre) .counts)
+plan-step-requires c κs = let b = c .before .before .before .before .before .before .before .before .before .before .before .before in counted (b .args .t1) (b .pre)
 
-stepped-by-requires : tie.Need-stepped-by-requires
-stepped-by-requires c κs =
-    let b = c .before .before .before .before .before .before .before .before .before .before .args in
-    let d = coreOf (b .t1) (c .before .before .before .before .before .before .core-of .result) in
-    let first = unit-in (b .s) d (c .before .before .before .before .unit-of .result) (c .before .before .before .before .unit-of .ensures) in
-    let second = other-in (b .s) d (c .before .before .before .other-of .result) (c .before .before .before .other-of .ensures) in
-    (core-in (b .s) (c .before .before .before .before .before .before .core-of .result) (c .before .before .before .before .before .before .core-of .ensures), omega (arith, first, second), omega (arith, first, second))
+put-back-requires : tie.Need-put-back-requires
+put-back-requires c κs =
+    let a = c .before .before .before .before .before .before .before .before .before .before .before .before .before .args in
+    let k = c .before .before .before .before .before .before .before .before .before .before .before .before .core-place in
+    let d = coreOf (a .t1) (k .result .0) in (
+      core-in (a .s) _ (k .ensures),
+      unit-in (a .s) d _ (c .before .before .before .before .before .before .before .before .before .unit-place .ensures),
+      other-in (a .s) d _ (c .before .before .before .before .before .before .before .before .other-place .ensures),
+    )
 
 returns : tie.Need-returns
 returns c =
-    let b = c .before .before .before .before .before .before .before .before .before .before .before in
-    whole (b .args .t1) (b .args .s) (b .pre) _ _ _ _ _ (c .before .before .before .before .before .before .before .core-of .ensures) (c .before .before .before .before .before .unit-of .ensures) (c .before .before .before .before .other-of .ensures) (c .before .plan-step .ensures) (c .stepped-by .ensures)
+    let b = c .before .before .before .before .before .before .before .before .before .before .before .before .before .before in
+    in-place (b .args .t1) (b .args .s) _ _ _ _ _ (held (b .args .t1) _ (b .good .0)) (b .pre) (c .before .before .before .before .before .before .before .before .before .before .before .before .before .core-place .ensures)
+    (c .before .before .before .before .before .before .before .before .before .before .unit-place .ensures) (c .before .before .before .before .before .before .before .before .before .other-place .ensures) (c .before .plan-step .ensures) (c .put-back .ensures)
 
 pub step-sound-spec : {M : Type 1} → statement M
 step-sound-spec =
     tie.close
     (tie.spec
-    core-of-requires
+    core-place-requires
+    cast-at
     mul-c
-    array-copy-out-c
-    unit-of-requires
-    other-of-requires
+    element-copy-out-c
+    unit-place-requires
+    other-place-requires
+    cast-first
+    cast-second
     mul-x
     element-copy-out-x
     mul-y
     element-copy-out-y
     plan-step-requires
-    stepped-by-requires
+    put-back-requires
     returns)

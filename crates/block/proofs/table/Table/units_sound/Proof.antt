@@ -1,4 +1,4 @@
--- `block::table::Table::units_sound` meets its contract: after u turns, ok says whether the first u units are sound.
+-- `block::table::Table::units_sound` meets its contract: after i turns, ok says whether the first i units are sound.
 use borrow.Author.Needs.{needs}
 use Prim.Native.Nat.{_≤_, _-_}
 use mathlib.Core.Path.{_≡_}
@@ -11,10 +11,10 @@ use Rattle.block.proofs.table.Table.units_sound.Statement.{statement}
 use Rattle.block.proofs.table.Table.units_sound.Tie as tie
 
 abbrev Inv-loop : tie.InvT-loop
-Inv-loop self ok₀ u₀ ok u = (u ≤ units) × (ok ≡ every (unitSound self) u)
+Inv-loop self ok₀ i₀ ok i = (i ≤ units) × (ok ≡ every (unitSound self) i)
 
 abbrev μ-loop : tie.MeasureT-loop
-μ-loop self ok₀ u₀ ok u = units - u
+μ-loop self ok₀ i₀ ok i = units - i
 
 loop-holds : tie.Need-loop-holds Inv-loop μ-loop
 loop-holds c = search (none, needs)
@@ -25,11 +25,14 @@ mul-x c = search needs
 element-copy-out-x : tie.Need-element-copy-out-x Inv-loop μ-loop
 element-copy-out-x c = search needs
 
+cast-u : tie.Need-cast-u Inv-loop μ-loop
+cast-u c = search needs
+
 unit-sound-requires : tie.Need-unit-sound-requires Inv-loop μ-loop
 unit-sound-requires c κs = search needs
 
-add-u : tie.Need-add-u Inv-loop μ-loop
-add-u c = search needs
+add-i : tie.Need-add-i Inv-loop μ-loop
+add-i c = search needs
 
 loop-less : tie.Need-loop-less Inv-loop μ-loop
 loop-less c = search needs
@@ -49,8 +52,9 @@ units-sound-spec =
     loop-holds
     mul-x
     element-copy-out-x
+    cast-u
     unit-sound-requires
-    add-u
+    add-i
     loop-less
     loop-again
     returns)

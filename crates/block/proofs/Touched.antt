@@ -1,0 +1,58 @@
+-- A step by the one or two units that it touches: only those settle. That this is the settling of all units is shown where no other
+-- unit has anything to settle.
+use Prim.Native.Nat.{ℕ, _<_}
+use mathlib.Core.Bool.{cond}
+use mathlib.Core.List.{_++_}
+use mathlib.Core.Path.{_≡_}
+use lib.Dec.{eqb}
+use Rattle.ticket.specs.declared.kinds.Ticket.{Ticket}
+use Rattle.ticket.specs.declared.kinds.UnitNo.{UnitNo}
+use Rattle.parts.specs.Parts.{units, blank}
+use Rattle.parts.specs.Answer.{packed}
+use Rattle.parts.specs.declared.kinds.Core.{Core}
+use Rattle.parts.specs.declared.kinds.Register.{Register}
+use Rattle.parts.specs.declared.kinds.LockUnit.{LockUnit}
+use Rattle.parts.specs.declared.answer.Answer.{Answer}
+use Rattle.parts.specs.declared.answer.Answer.the-variants.{Done}
+use Rattle.parts.specs.declared.answer.Grants.the-variants.{None}
+use Rattle.settling.specs.Line.{flags, next, won}
+use Rattle.settling.specs.declared.line.Best.the-variants.{Nobody}
+use Rattle.settling.specs.Settle.{given}
+use Rattle.settling.specs.declared.settle.Settled.{Settled}
+use Rattle.block.specs.Table.{unitOf, withRegister, withCore}
+use Rattle.block.specs.Settle.{settleAt}
+use Rattle.block.specs.declared.table.Table.{Table}
+use Rattle.block.specs.declared.stepped.Stepped.{Stepped}
+
+-- nothing to settle at a unit, and nowhere in a table
+abbrev pub Calm : LockUnit → Type 0
+Calm x = flags x ≡ 0 → next x ≡ Nobody
+
+abbrev pub CalmTable : Table → Type 0
+CalmTable t = (u : ℕ) → u < units → Calm (unitOf t u)
+
+-- a step that touched nothing that settles
+abbrev pub unsettled : Table → Answer → Ticket → Stepped
+unsettled t a n = record { table = t; answer = a; ticket = n; grants = None }
+
+abbrev pub settledOne : Table → UnitNo → Answer → Ticket → Stepped
+settledOne t u a n =
+    let s = settleAt t (u .0) in
+    record { table = s .table; answer = a; ticket = n; grants = packed (won (u .0) (s .winner)) }
+
+abbrev pub settledTwo : Table → UnitNo → UnitNo → Answer → Ticket → Stepped
+settledTwo t u v a n =
+    let s = settleAt t (u .0) in
+    let z = settleAt (s .table) (v .0) in
+    record { table = z .table; answer = a; ticket = n; grants = packed (won (u .0) (s .winner) ++ won (v .0) (z .winner)) }
+
+-- core k becomes c and its register at unit u becomes r; or it gives up its registers at two units
+abbrev pub changed : Table → ℕ → Core → UnitNo → Register → Ticket → Stepped
+changed t k c u r n = settledOne (withCore (withRegister t (u .0) k r) k c) u Done n
+
+abbrev pub freedTwo : Table → ℕ → Core → UnitNo → UnitNo → Ticket → Stepped
+freedTwo t k c u v n = settledTwo (withCore (withRegister (withRegister t (u .0) k blank) (v .0) k blank) k c) u v Done n
+
+-- one unit by itself settles
+abbrev pub settledUnit : LockUnit → Settled
+settledUnit x = cond (eqb (flags x) 0) (given x (next x)) (given x Nobody)

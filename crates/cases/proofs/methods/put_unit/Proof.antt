@@ -1,0 +1,56 @@
+-- `cases::methods::put_unit` is safe and ends: the registers that are left fall.
+use Prim.Native.Nat.{_-_}
+use mathlib.Core.Path.{_≡_}
+use lib.ListN.{length}
+use borrow.Author.Needs.{needs}
+use Rattle.cases.proofs.methods.put_unit.Statement.{statement}
+use Rattle.cases.proofs.methods.put_unit.Tie as tie
+
+abbrev Inv-loop : tie.InvT-loop
+Inv-loop out₀ at x to₀ k₀ out to k = length out ≡ length out₀
+
+abbrev μ-loop : tie.MeasureT-loop
+μ-loop out₀ at x to₀ k₀ out to k = 8 - k
+
+loop-holds : tie.Need-loop-holds Inv-loop μ-loop
+loop-holds c = search needs
+
+mul-r : tie.Need-mul-r Inv-loop μ-loop
+mul-r c = search needs
+
+element-copy-out-r : tie.Need-element-copy-out-r Inv-loop μ-loop
+element-copy-out-r c = search needs
+
+put-register-requires : tie.Need-put-register-requires Inv-loop μ-loop
+put-register-requires c κs = search needs
+
+add-k : tie.Need-add-k Inv-loop μ-loop
+add-k c = search needs
+
+loop-less : tie.Need-loop-less Inv-loop μ-loop
+loop-less c = search needs
+
+loop-again : tie.Need-loop-again Inv-loop μ-loop
+loop-again c = search needs
+
+same-length : tie.Need-same-length Inv-loop μ-loop
+same-length c = search needs
+
+returns : tie.Need-returns Inv-loop μ-loop
+returns c = search needs
+
+pub put-unit-spec : {M : Type 1} → statement M
+put-unit-spec =
+    tie.close
+    (tie.spec
+    Inv-loop
+    μ-loop
+    loop-holds
+    mul-r
+    element-copy-out-r
+    put-register-requires
+    add-k
+    loop-less
+    loop-again
+    same-length
+    returns)

@@ -1,0 +1,81 @@
+-- "The steps": the effect of each when it is allowed. m is the counter and c the core that the step names; for P also whether the flag
+-- that it waits for is set, and who is next in line at its first unit.
+use mathlib.Core.Bool.{Bool, cond}
+use Rattle.ticket.specs.Kinds.{ticket}
+use Rattle.ticket.specs.Order.{older, after}
+use Rattle.ticket.specs.declared.kinds.Ticket.{Ticket}
+use Rattle.ticket.specs.declared.kinds.UnitNo.{UnitNo}
+use Rattle.parts.specs.State.{twoStage}
+use Rattle.parts.specs.Parts.{unitNo, idle, core}
+use Rattle.parts.specs.declared.kinds.Core.{Core}
+use Rattle.parts.specs.declared.kinds.State.{State}
+use Rattle.parts.specs.declared.kinds.State.the-variants.{Idle, Waiting, Holding, WaitingSecond, HoldingBoth, Away}
+use Rattle.parts.specs.declared.answer.Answer.{Answer}
+use Rattle.parts.specs.declared.answer.Answer.the-variants.{Done, Granted, NotYet}
+use Rattle.parts.specs.declared.answer.Step.{Step}
+use Rattle.parts.specs.declared.answer.Step.the-variants.{R, N, P, I, C, L}
+use Rattle.settling.specs.declared.line.Best.{Best}
+use Rattle.settling.specs.declared.line.Best.the-variants.{Nobody, Won}
+use Rattle.effects.specs.declared.kinds.Move.{Move}
+use Rattle.effects.specs.declared.kinds.Move.the-variants.{Stay, Enter, Carry, GiveUp}
+use Rattle.effects.specs.declared.kinds.Effect.{Effect}
+
+-- the core becomes c and does d; the tester sees the answer a and the ticket n; the counter is m from now on
+abbrev pub makes : Core → Move → Answer → Ticket → Ticket → Effect
+makes c d a n m = record { core = c; counter = m; ticket = n; does = d; answer = a }
+
+-- R: "takes the counter as ticket, enters the unit (either class), waits"
+abbrev pub request : UnitNo → Ticket → Effect
+request u m = makes (core m m u (unitNo 0) Waiting) (Enter u m) Done m (ticket (after (m .0)))
+
+-- N: "enters a second-class unit with its own ticket, waits"
+abbrev pub nest : UnitNo → Ticket → Core → Effect
+nest u m c = makes (core (c .own) (c .own) (c .first) u WaitingSecond) (Enter u (c .own)) Done (c .own) m
+
+-- I: "gives up every register, carried ticket becomes the own one, away"
+abbrev pub interrupt : Ticket → Core → Effect
+interrupt m c = makes (core (c .own) (c .own) (c .first) (unitNo 0) Away) GiveUp Done (c .own) m
+
+-- C: "enters its first unit again with its own ticket, waits"
+abbrev pub comeBack : Ticket → Core → Effect
+comeBack m c = makes (core (c .own) (c .own) (c .first) (unitNo 0) Waiting) (Enter (c .first) (c .own)) Done (c .own) m
+
+-- L: "gives up every register, ticket ends, idle"; it reports "the own ticket just ended"
+abbrev pub release : Ticket → Core → Effect
+release m c = makes idle GiveUp Done (c .own) m
+
+-- P: "flag set: now holds it, answer 1"
+abbrev pub served : State → State
+served Idle = Idle
+served Waiting = Holding
+served Holding = Holding
+served WaitingSecond = HoldingBoth
+served HoldingBoth = HoldingBoth
+served Away = Away
+
+abbrev pub hold : Ticket → Core → Effect
+hold m c = makes (core (c .own) (c .carried) (c .first) (c .second) (served (c .state))) Stay Granted (c .carried) m
+
+-- "Inheriting: take the oldest ticket among valid registers with flag clear at the first unit. If it is older than the carried
+-- ticket, it becomes the carried ticket and goes into the second unit's register. Otherwise nothing changes."
+abbrev pub heir : Ticket → Best → Ticket
+heir n Nobody = n
+heir n (Won j t) = cond (older (t .0) (n .0)) t n
+
+abbrev pub inherit : Ticket → Core → Ticket → Effect
+inherit m c n = makes (core (c .own) n (c .first) (c .second) (c .state)) (Carry n) NotYet n m
+
+abbrev pub wait : Ticket → Core → Effect
+wait m c = makes c Stay NotYet (c .carried) m
+
+-- "Flag clear: answer 2, and at the second stage it inherits"
+abbrev pub poll : Ticket → Core → Bool → Best → Effect
+poll m c flag next = cond flag (hold m c) (cond (twoStage (c .state)) (inherit m c (heir (c .carried) next)) (wait m c))
+
+abbrev pub stepEffect : Step → Ticket → Core → Bool → Best → Effect
+stepEffect (R k u) m c flag next = request u m
+stepEffect (N k u) m c flag next = nest u m c
+stepEffect (P k) m c flag next = poll m c flag next
+stepEffect (I k) m c flag next = interrupt m c
+stepEffect (C k) m c flag next = comeBack m c
+stepEffect (L k) m c flag next = release m c

@@ -1,0 +1,213 @@
+// The effects of the six steps, by what they read of the table.
+use crate::kinds::Effect;
+use crate::kinds::Move;
+use parts::Answer;
+use parts::Core;
+use parts::LockUnit;
+use parts::State;
+use parts::Step;
+use parts::core;
+use parts::idle;
+use parts::two_stage;
+use settling::Best;
+use settling::next_of;
+use ticket::CoreNo;
+use ticket::Ticket;
+use ticket::UnitNo;
+use ticket::older;
+use ticket::take;
+ghost use mathlib.Core.Path.{_≡_};
+ghost use Prim.Native.Nat.{_≤_, _<_};
+ghost use Rattle.parts.specs.Parts.{cores, registerIn};
+ghost use Rattle.settling.specs.Line.{nextOf};
+ghost use Rattle.effects.specs.Effect.{request, nest, interrupt, comeBack, release, served, heir, hold, inherit, wait, poll, stepEffect};
+
+// R: takes the counter as ticket, enters the unit, waits.
+fn request(u: UnitNo, counter: Ticket) -> Effect
+    ensures { λ r. ⌜ r ≡ request u counter ⌝ }
+{
+    let issued = take(counter);
+    let n = issued.ticket;
+    let unit = issued.unit;
+    let after = unit.counter;
+    Effect {
+        core: core(n, n, u, UnitNo(0), State::Waiting),
+        counter: after,
+        ticket: n,
+        does: Move::Enter(u, n),
+        answer: Answer::Done,
+    }
+}
+
+// N: enters a second-class unit with its own ticket, waits.
+fn nest(u: UnitNo, counter: Ticket, c: Core) -> Effect
+    ensures { λ r. ⌜ r ≡ nest u counter c ⌝ }
+{
+    let own = c.own;
+    let first = c.first;
+    Effect {
+        core: core(own, own, first, u, State::WaitingSecond),
+        counter,
+        ticket: own,
+        does: Move::Enter(u, own),
+        answer: Answer::Done,
+    }
+}
+
+// I: gives up every register, carried ticket becomes the own one, away.
+fn interrupt(counter: Ticket, c: Core) -> Effect
+    ensures { λ r. ⌜ r ≡ interrupt counter c ⌝ }
+{
+    let own = c.own;
+    let first = c.first;
+    Effect {
+        core: core(own, own, first, UnitNo(0), State::Away),
+        counter,
+        ticket: own,
+        does: Move::GiveUp,
+        answer: Answer::Done,
+    }
+}
+
+// C: enters its first unit again with its own ticket, waits.
+fn come_back(counter: Ticket, c: Core) -> Effect
+    ensures { λ r. ⌜ r ≡ comeBack counter c ⌝ }
+{
+    let own = c.own;
+    let first = c.first;
+    Effect {
+        core: core(own, own, first, UnitNo(0), State::Waiting),
+        counter,
+        ticket: own,
+        does: Move::Enter(first, own),
+        answer: Answer::Done,
+    }
+}
+
+// L: gives up every register, ticket ends, idle.
+fn release(counter: Ticket, c: Core) -> Effect
+    ensures { λ r. ⌜ r ≡ release counter c ⌝ }
+{
+    let own = c.own;
+    Effect {
+        core: idle(),
+        counter,
+        ticket: own,
+        does: Move::GiveUp,
+        answer: Answer::Done,
+    }
+}
+
+// The state after a poll that found the flag set.
+fn served(s: State) -> State
+    ensures { λ r. ⌜ r ≡ served s ⌝ }
+{
+    match s {
+        State::Idle => State::Idle,
+        State::Waiting => State::Holding,
+        State::Holding => State::Holding,
+        State::WaitingSecond => State::HoldingBoth,
+        State::HoldingBoth => State::HoldingBoth,
+        State::Away => State::Away,
+    }
+}
+
+// The older of a carried ticket and the one next in line.
+fn heir(carried: Ticket, best: Best) -> Ticket
+    ensures { λ r. ⌜ r ≡ heir carried best ⌝ }
+{
+    match best {
+        Best::Nobody => carried,
+        Best::Won(_, m) => { if older(m, carried) { m } else { carried } }
+    }
+}
+
+// Flag set: now holds it.
+fn hold(counter: Ticket, c: Core) -> Effect
+    ensures { λ r. ⌜ r ≡ hold counter c ⌝ }
+{
+    let own = c.own;
+    let carried = c.carried;
+    let first = c.first;
+    let second = c.second;
+    let s = c.state;
+    Effect {
+        core: core(own, carried, first, second, served(s)),
+        counter,
+        ticket: carried,
+        does: Move::Stay,
+        answer: Answer::Granted,
+    }
+}
+
+// Flag clear at the second stage: it inherits the ticket n.
+fn inherit(counter: Ticket, c: Core, n: Ticket) -> Effect
+    ensures { λ r. ⌜ r ≡ inherit counter c n ⌝ }
+{
+    let own = c.own;
+    let first = c.first;
+    let second = c.second;
+    let s = c.state;
+    Effect {
+        core: core(own, n, first, second, s),
+        counter,
+        ticket: n,
+        does: Move::Carry(n),
+        answer: Answer::NotYet,
+    }
+}
+
+// Flag clear at the first stage.
+fn wait(counter: Ticket, c: Core) -> Effect
+    ensures { λ r. ⌜ r ≡ wait counter c ⌝ }
+{
+    let carried = c.carried;
+    Effect {
+        core: c,
+        counter,
+        ticket: carried,
+        does: Move::Stay,
+        answer: Answer::NotYet,
+    }
+}
+
+// P: core k, which is c, waits at the unit y; at the second stage it holds x.
+fn poll(n: u16, counter: Ticket, k: CoreNo, c: Core, x: LockUnit, y: LockUnit) -> Effect
+    requires { ⌜ (n ≤ cores) × (k .0 < cores) ⌝ }
+    ensures { λ r. ⌜ r ≡ poll counter c (registerIn y (k .0) .flag) (nextOf n x) ⌝ }
+{
+    let s = c.state;
+    let carried = c.carried;
+    let i = k.0 as usize;
+    let r = y.registers[i];
+    if r.flag {
+        return hold(counter, c);
+    }
+    if two_stage(s) {
+        return inherit(counter, c, heir(carried, next_of(n, x)));
+    }
+    wait(counter, c)
+}
+
+// Seam: the effect of a step of core k, which is c, in a table of n cores: x and y are the units at its places.
+pub fn step_effect(
+    s: Step,
+    n: u16,
+    counter: Ticket,
+    k: CoreNo,
+    c: Core,
+    x: LockUnit,
+    y: LockUnit,
+) -> Effect
+    requires { ⌜ (n ≤ cores) × (k .0 < cores) ⌝ }
+    ensures { λ r. ⌜ r ≡ stepEffect s counter c (registerIn y (k .0) .flag) (nextOf n x) ⌝ }
+{
+    match s {
+        Step::R(_, u) => request(u, counter),
+        Step::N(_, u) => nest(u, counter, c),
+        Step::P(_) => poll(n, counter, k, c, x, y),
+        Step::I(_) => interrupt(counter, c),
+        Step::C(_) => come_back(counter, c),
+        Step::L(_) => release(counter, c),
+    }
+}
