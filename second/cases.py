@@ -66,6 +66,18 @@ def writing(counts, room, shown, answer):
     add(b"O" + struct.pack("<4H", *counts, room) + registers(shown), b"O\t%s\n" % answer)
 
 
+def line(letter, room, place, numbers, answer):
+    """A line's numbers, and the line as it comes to stand at the place; or the refusal's number, which leaves every byte lent."""
+    lent, fields = b"." * room, [answer]
+    if isinstance(answer, str):
+        put = text(answer)
+        fields = [0, place + len(put)]
+        lent = lent[:place] + put + lent[place + len(put) :]
+        assert len(lent) == room
+    case = struct.pack("<2H", room, place) + struct.pack({b"H": "<4H", b"L": "<B2H", b"E": "<IBHB4H"}[letter], *numbers)
+    add(letter + case, letter + b"".join(b"\t%d" % n for n in [*fields, *lent]) + b"\n")
+
+
 script(text(RUN), text(COLUMNS))
 script(b"", b"X\t22\n")
 script(b"T\t3\t1\t9\t0\n", b"X\t20\n")
@@ -154,6 +166,58 @@ writing((2, 1, 1), 3, d, b"30")
 writing((2, 2, 1), 6, d, b"30")
 writing((2, 1, 9), 4, d, b"20")
 writing((8, 8, 8), 128, {(u, k): (8 * u + k, 1, 0) for u in range(16) for k in range(8)}, b"0" + b"".join(b"\t%d" % (65536 + i) for i in range(128)))
+for room, place, numbers, answer in [
+    (14, 0, (8, 8, 8, 65535), "T 8 8 8 65535"),
+    (13, 0, (8, 8, 8, 65535), 23),
+    (64, 50, (8, 8, 8, 65535), "T 8 8 8 65535"),
+    (64, 51, (8, 8, 8, 65535), 23),
+    (20, 3, (1, 1, 0, 0), "T 1 1 0 0"),
+    (10, 10, (1, 1, 0, 0), 23),
+    (10, 65535, (1, 1, 0, 0), 23),
+    (0, 0, (1, 1, 0, 0), 23),
+    (14, 0, (0, 1, 0, 0), 20),
+    (14, 0, (9, 1, 0, 0), 20),
+    (14, 0, (1, 0, 0, 0), 20),
+    (14, 0, (1, 9, 0, 0), 20),
+    (14, 0, (1, 1, 9, 0), 20),
+    (30, 0, (257, 1, 65535, 0), 20),
+    (3, 9, (1, 1, 9, 0), 20),
+]:
+    line(b"H", room, place, numbers, answer)
+for room, place, numbers, answer in [
+    (14, 0, (0, 65535, 65535), "R 65535 65535"),
+    (13, 0, (0, 65535, 65535), 23),
+    (9, 2, (1, 3, 12), "N 3 12"),
+    (8, 2, (1, 3, 12), 23),
+    (6, 1, (2, 0, 99), "P 0"),
+    (5, 1, (2, 0, 99), "P 0"),
+    (4, 1, (2, 0, 99), 23),
+    (64, 57, (3, 1000, 0), "I 1000"),
+    (64, 58, (3, 1000, 0), 23),
+    (12, 4, (4, 10, 0), "C 10"),
+    (4, 0, (5, 9, 1), "L 9"),
+    (4, 0, (6, 9, 1), "L 9"),
+    (4, 0, (255, 9, 1), "L 9"),
+    (4, 5, (5, 9, 1), 23),
+    (0, 0, (5, 9, 1), 23),
+]:
+    line(b"L", room, place, numbers, answer)
+for index, number in enumerate([0, 1, 2, 10, 11, 12, 13, 14, 15, 16, 20, 20]):
+    line(b"E", 12, 1, (7, index, 0, 0, 1, 2, 3, 4), "7 %d 0 0" % number)
+for room, place, numbers, answer in [
+    (27, 0, (1000000, 0, 65535, 2, 7, 7, 15, 6), "1000000 0 65535 2 7 7 15 6"),
+    (26, 0, (1000000, 0, 65535, 2, 7, 7, 15, 6), 23),
+    (64, 37, (1000000, 0, 65535, 2, 7, 7, 15, 6), "1000000 0 65535 2 7 7 15 6"),
+    (64, 38, (1000000, 0, 65535, 2, 7, 7, 15, 6), 23),
+    (16, 2, (9, 0, 10, 1, 8, 3, 15, 6), "9 0 10 1 8 3"),
+    (14, 2, (9, 0, 10, 1, 8, 3, 15, 6), 23),
+    (20, 2, (10, 1, 1, 255, 0, 1, 1, 2), "10 1 1 2 0 1 1 2"),
+    (64, 0, (1, 0, 100, 2, 65535, 10000, 0, 32768), "1 0 100 2 65535 10000 0 32768"),
+    (9, 9, (1, 2, 0, 0, 0, 0, 0, 0), 23),
+    (9, 10, (1, 2, 0, 0, 0, 0, 0, 0), 23),
+    (0, 0, (1, 2, 0, 0, 0, 0, 0, 0), 23),
+]:
+    line(b"E", room, place, numbers, answer)
 script(text(RUN), text(COLUMNS))
 # the last case is cut off, which ends the program
 cases.append(b"W\0\0\1")

@@ -12,6 +12,12 @@
 //!   and ticket, valid, flag of each register.
 //! - `O`: u16 cores, first, second, room; 16 x 8 registers. Answer: `O`, 20 or
 //!   30, or `O`, 0 and each word.
+//! - `H`, `L`, `E`: u16 bytes lent (at most 64, each `.`), u16 place, and the line
+//!   to write there. `H`: the header's four u16. `L`: the step as in `M`. `E`: u32
+//!   step number, u8 index of the answer in `ANSWERS` (from 10 on the last), u16
+//!   ticket, u8 number of grants (from 2 on two), two times u16 unit, u16 core.
+//!   Answer: the letter, 20, 23, or 0 and the place after the line; then each
+//!   byte lent, as a number.
 //!
 //! A case that is cut off, or of no such letter, ends the run.
 
@@ -21,12 +27,17 @@ use crate::script::put_field;
 use crate::table::{Core, Kind, Outcome, Register, State, Step, Table, Unit, MAX_CORES, MAX_UNITS};
 use crate::translate::translate;
 use crate::words;
+use crate::writers::Line;
 
 /// Most words of an image in a case.
 pub const WORDS_MAX: usize = 200;
 const REGISTERS: usize = MAX_UNITS * MAX_CORES * 4;
 pub const TABLE: usize = 8 + MAX_CORES * 9 + REGISTERS;
-/// The letters' order in a case `M`.
+/// Most bytes lent in a case.
+pub const LENT_MAX: usize = 64;
+/// The answers' order in a case `E`.
+pub const ANSWERS: [u8; 11] = [0, 1, 2, 10, 11, 12, 13, 14, 15, 16, 20];
+/// The letters' order in a case `M` or `L`.
 pub const KINDS: [Kind; 6] = [
     Kind::Request,
     Kind::Nest,
@@ -84,6 +95,10 @@ pub fn put_table(case: &mut Vec<u8>, table: &Table) {
 pub fn put_method(case: &mut Vec<u8>, table: &Table, step: Step) {
     case.push(b'M');
     put_whole(case, table);
+    put_step(case, step);
+}
+
+fn put_step(case: &mut Vec<u8>, step: Step) {
     let letter = KINDS.iter().position(|kind| *kind == step.kind);
     case.push(letter.expect("all kinds are listed") as u8);
     put_u16(case, step.core);
@@ -119,6 +134,27 @@ pub fn put_write_image(case: &mut Vec<u8>, counts: [u16; 3], room: u16, units: &
     put_u16(case, room);
     for register in units.iter().flatten() {
         put_register(case, register);
+    }
+}
+
+pub fn put_line(case: &mut Vec<u8>, room: u16, place: u16, line: &Line) {
+    case.push(line.letter());
+    put_u16(case, room);
+    put_u16(case, place);
+    match line {
+        Line::Header(numbers) => numbers.iter().for_each(|number| put_u16(case, *number)),
+        Line::Step(step) => put_step(case, *step),
+        Line::Expected(number, outcome) => {
+            case.extend_from_slice(&number.to_le_bytes());
+            let answer = ANSWERS.iter().position(|answer| *answer == outcome.answer);
+            case.push(answer.expect("all answers are listed") as u8);
+            put_u16(case, outcome.ticket);
+            case.push(outcome.granted as u8);
+            for (unit, core) in outcome.grants {
+                put_u16(case, unit);
+                put_u16(case, core);
+            }
+        }
     }
 }
 
@@ -190,6 +226,22 @@ impl Payload<'_> {
             kind: KINDS[(self.byte() as usize).min(5)],
             core: self.u16(),
             unit: self.u16(),
+        }
+    }
+
+    fn line(&mut self, letter: u8) -> Line {
+        match letter {
+            b'H' => Line::Header([(); 4].map(|()| self.u16())),
+            b'L' => Line::Step(self.step()),
+            _ => Line::Expected(
+                self.u32(),
+                Outcome {
+                    answer: ANSWERS[(self.byte() as usize).min(10)],
+                    ticket: self.u16(),
+                    granted: (self.byte() as usize).min(2),
+                    grants: [(); 2].map(|()| (self.u16(), self.u16())),
+                },
+            ),
         }
     }
 }
@@ -317,6 +369,32 @@ fn answer<R: Read>(input: &mut R, payload: &mut Vec<u8>, out: &mut Vec<u8>) -> i
                 }
             }
         }
+        b'H' | b'L' | b'E' => {
+            read(payload, 4)?;
+            let mut fields = Payload(payload);
+            let (room, place) = (fields.u16() as usize, fields.u16() as usize);
+            if room > LENT_MAX {
+                return Ok(false);
+            }
+            let length = match letter {
+                b'H' => 8,
+                b'L' => 5,
+                _ => 16,
+            };
+            read(payload, length)?;
+            let line = Payload(payload).line(letter);
+            let mut lent = vec![b'.'; room];
+            match line.write(&mut lent, place) {
+                Err(number) => put_answer(out, letter, number),
+                Ok(next) => {
+                    put_answer(out, letter, 0);
+                    put_field(out, next as u32);
+                }
+            }
+            for byte in lent {
+                put_field(out, byte as u32);
+            }
+        }
         _ => return Ok(false),
     }
     out.push(b'\n');
@@ -352,6 +430,12 @@ pub fn described(case: &[u8]) -> String {
     let mut text = format!("case {}, bytes", case[0] as char);
     for byte in &case[1..] {
         text += &format!(" {byte:02x}");
+    }
+    if matches!(case[0], b'H' | b'L' | b'E') {
+        let mut fields = Payload(&case[1..]);
+        let (room, place) = (fields.u16(), fields.u16());
+        let line = fields.line(case[0]);
+        text += &format!("\n{room} bytes lent, place {place}, {line:?}");
     }
     if matches!(case[0], b'S' | b'M') {
         let mut fields = Payload(&case[1..]);

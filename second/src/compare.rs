@@ -17,6 +17,7 @@ use crate::rng::Rng;
 use crate::script::STEPS_MAX;
 use crate::tables;
 use crate::translate::translate;
+use crate::writers;
 
 pub struct Options {
     /// Starts `translator` or `cases`, the name being its argument.
@@ -31,6 +32,8 @@ pub struct Options {
     pub others: u64,
     /// Steps by the table's methods.
     pub methods: u64,
+    /// Lines by the writers' functions.
+    pub writers: u64,
     pub jobs: usize,
     pub shrink_seconds: u64,
     /// Seconds a program may take for one batch.
@@ -45,11 +48,23 @@ const DAMAGED_BATCH: u64 = 5_000;
 const SINGLES_BATCH: u64 = 25;
 const OTHERS_BATCH: u64 = 5_000;
 const METHODS_BATCH: u64 = 5_000;
+const WRITERS_BATCH: u64 = 15_000;
 /// The answers a run of a million steps or more has to meet.
 const NUMBERS: [u32; 13] = [0, 1, 2, 10, 11, 12, 13, 14, 15, 20, 21, 22, 24];
 /// The answers so many steps by methods have to meet.
 const METHOD_NUMBERS: [u32; 10] = [0, 1, 2, 10, 11, 12, 13, 14, 15, 16];
 const METHODS_ENOUGH: u64 = 20_000;
+/// The answers so many lines by the writers have to meet.
+const WRITER_NUMBERS: [(u8, u32); 7] = [
+    (b'H', 0),
+    (b'H', 20),
+    (b'H', 23),
+    (b'L', 0),
+    (b'L', 23),
+    (b'E', 0),
+    (b'E', 23),
+];
+const WRITERS_ENOUGH: u64 = 3_000;
 const LETTERS: &[u8; 6] = b"RNPICL";
 
 /// Work whose content follows from the seed and its place in the plan alone.
@@ -81,6 +96,11 @@ enum Batch {
     },
     Methods {
         stream: u64,
+        count: u64,
+    },
+    Writers {
+        stream: u64,
+        first: u64,
         count: u64,
     },
 }
@@ -172,6 +192,13 @@ fn plan(options: &Options) -> Vec<Batch> {
     pieces(options.methods, METHODS_BATCH, &|stream, _, count| {
         Batch::Methods { stream, count }
     });
+    pieces(options.writers, WRITERS_BATCH, &|stream, first, count| {
+        Batch::Writers {
+            stream,
+            first,
+            count,
+        }
+    });
     plan
 }
 
@@ -190,6 +217,10 @@ struct Tally {
     methods: BTreeMap<u8, u64>,
     method_numbers: BTreeMap<u32, u64>,
     method_two_grants: u64,
+    /// Lines by the writers: their letters with their answers, those that fill
+    /// the bytes lent to the last.
+    writers: BTreeMap<(u8, u32), u64>,
+    writer_fits: u64,
     /// Counts in headers of scripts that were begun.
     headers: BTreeMap<Vec<u8>, u64>,
     kinds: BTreeMap<String, u64>,
@@ -210,12 +241,14 @@ impl Tally {
         self.steps += other.steps;
         self.sound += other.sound;
         self.method_two_grants += other.method_two_grants;
+        self.writer_fits += other.writer_fits;
         self.seen.add(&other.seen);
         add_all(&mut self.letters, other.letters);
         add_all(&mut self.numbers, other.numbers);
         add_all(&mut self.others, other.others);
         add_all(&mut self.methods, other.methods);
         add_all(&mut self.method_numbers, other.method_numbers);
+        add_all(&mut self.writers, other.writers);
         add_all(&mut self.headers, other.headers);
         add_all(&mut self.kinds, other.kinds);
     }
@@ -255,12 +288,30 @@ impl Tally {
 
     /// Counts a step by a method by its answer: number, ticket, number of grants.
     fn count_method(&mut self, answer: &[u8]) {
-        let mut fields = answer.split(|b| *b == b'\t').skip(1);
+        let mut fields = numbers_of(answer);
         let number = fields.next().unwrap_or_default();
-        let number = number.iter().fold(0, |n, b| n * 10 + (b - b'0') as u32);
         *self.method_numbers.entry(number).or_default() += 1;
-        self.method_two_grants += (fields.nth(1) == Some(b"2")) as u64;
+        self.method_two_grants += (fields.nth(1) == Some(2)) as u64;
     }
+
+    /// Counts a line by a writer by its answer: number, next place if it is 0,
+    /// the bytes lent.
+    fn count_writer(&mut self, answer: &[u8]) {
+        let mut fields = numbers_of(answer);
+        let number = fields.next().unwrap_or_default();
+        *self.writers.entry((answer[0], number)).or_default() += 1;
+        if number == 0 {
+            let next = fields.next().unwrap_or_default();
+            self.writer_fits += (next as usize == fields.count()) as u64;
+        }
+    }
+}
+
+/// The numbers after an answer's letter.
+fn numbers_of(answer: &[u8]) -> impl Iterator<Item = u32> + '_ {
+    let line = answer.strip_suffix(b"\n").unwrap_or(answer);
+    let fields = line.split(|b| *b == b'\t').skip(1);
+    fields.map(|field| field.iter().fold(0, |n, b| n * 10 + (b - b'0') as u32))
 }
 
 /// How a script reaches the first implementation.
@@ -475,6 +526,20 @@ impl Comparison<'_> {
                     let letter = LETTERS[letter.expect("all kinds are listed")];
                     *tally.methods.entry(letter).or_default() += 1;
                     tally.count_method(cases.close());
+                }
+                self.many(batch, cases)
+            }
+            Batch::Writers {
+                stream,
+                first,
+                count,
+            } => {
+                let mut rng = Rng::new(seed, stream);
+                let mut cases = Cases::default();
+                for number in first..first + count {
+                    let letter = writers::LETTERS[(number % 3) as usize];
+                    writers::put_any(&mut rng, &mut cases.input, letter);
+                    tally.count_writer(cases.close());
                 }
                 self.many(batch, cases)
             }
@@ -943,6 +1008,14 @@ pub fn compare(options: &Options) -> i32 {
         listed(&tally.method_numbers, |number| format!("{number}:")),
         tally.method_two_grants
     );
+    println!(
+        "lines by the writers: {}; to the last byte lent {}",
+        listed(&tally.writers, |(letter, number)| format!(
+            "{} {number}:",
+            *letter as char
+        )),
+        tally.writer_fits
+    );
     let missing: Vec<String> = NUMBERS
         .iter()
         .filter(|number| !tally.numbers.contains_key(number))
@@ -962,15 +1035,23 @@ pub fn compare(options: &Options) -> i32 {
         println!("so many steps by methods have to meet every answer");
         return 1;
     }
+    let unmet = WRITER_NUMBERS
+        .iter()
+        .any(|answer| !tally.writers.contains_key(answer));
+    if unmet && options.writers >= WRITERS_ENOUGH {
+        println!("so many lines by the writers have to meet every answer");
+        return 1;
+    }
     println!(
         "no difference: {} scripts, {} steps, {} damaged scripts ({} with a process of their own), \
-         {} table, word and image cases, {} steps by methods, seed {}, {:.1} seconds",
+         {} table, word and image cases, {} steps by methods, {} lines by the writers, seed {}, {:.1} seconds",
         tally.scripts,
         tally.steps,
         tally.damaged,
         tally.singles,
         tally.others.values().sum::<u64>(),
         tally.methods.values().sum::<u64>(),
+        tally.writers.values().sum::<u64>(),
         options.seed,
         began.elapsed().as_secs_f64(),
     );

@@ -13,3 +13,4 @@ pub mod table;
 pub mod tables;
 pub mod translate;
 pub mod words;
+pub mod writers;

@@ -6,7 +6,7 @@ pub(crate) fn letter(s: &[u8]) -> u8 {
     if 0 < s.len() { s[0] } else { 0 }
 }
 
-fn wide(b: u8) -> u16
+pub(crate) fn wide(b: u8) -> u16
     ensures { λ r. ⌜ r < 256 ⌝ }
 {
     b as u16

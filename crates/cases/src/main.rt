@@ -18,9 +18,15 @@
 //   u32 each. `I`, 20 or 30; or `I`, 0, and ticket, valid and flag of each register of the image.
 // - O: u16 cores, first-class units, second-class units and number of words lent, at most 200; 16 units
 //   of 8 registers. `O`, 20 or 30; or `O`, 0, and the image's words.
+// - H, L and E: a line by `write_header`, `write_step` or `write_expected`, into lent bytes which each
+//   hold `.`. u16 number of bytes lent, at most 64, and u16 place. Then for H, u16 cores, first-class
+//   units, second-class units and counter; for L, the step as in M; for E, u32 step number, u8 answer
+//   (by its place among 0, 1, 2, 10 to 16 and 20, from 10 on 20), u16 ticket, u8 number of grants (from
+//   2 on 2), and two times u16 unit and u16 core. The letter; 20, 23, or 0 and the next place; and
+//   each byte lent, as a number.
 //
-// A case that the end of the input cuts off, another letter, and a number of words above 200 end the
-// program.
+// A case that the end of the input cuts off, another letter, a number of words above 200 and one of bytes
+// lent above 64 end the program.
 mod bytes;
 mod image;
 mod methods;
@@ -28,6 +34,7 @@ mod register;
 mod scripts;
 mod table;
 mod text;
+mod writers;
 
 use bytes::half;
 use image::WORDS_MOST;
@@ -35,6 +42,7 @@ use libc::STDIN_FILENO;
 use text::eased;
 use text::flush;
 use text::put;
+use writers::BYTES_MOST;
 ghost use mathlib.Core.Path.{_≡_};
 ghost use lib.ListN.{length};
 
@@ -196,14 +204,36 @@ fn size(s: &[u8]) -> usize {
     if letter == b'P' {
         return 5;
     }
-    let n = half(s, 7) as usize;
-    if WORDS_MOST < n {
+    if letter == b'I' {
+        return image_size(s, 9 + 4 * half(s, 7) as usize);
+    }
+    if letter == b'O' {
+        return image_size(s, 521);
+    }
+    writers_size(letter, half(s, 1) as usize)
+}
+
+// An image's case of so many bytes, if its number of words is in range.
+fn image_size(s: &[u8], n: usize) -> usize {
+    if WORDS_MOST < half(s, 7) as usize {
+        0
+    } else {
+        n
+    }
+}
+
+// A writer's case, if so many bytes lent are in range.
+fn writers_size(letter: u8, lent: usize) -> usize {
+    if BYTES_MOST < lent {
         return 0;
     }
-    if letter == b'I' {
-        return 9 + 4 * n;
+    if letter == b'H' {
+        return 13;
     }
-    if letter == b'O' { 521 } else { 0 }
+    if letter == b'L' {
+        return 10;
+    }
+    if letter == b'E' { 21 } else { 0 }
 }
 
 // The answer of a whole case and its line end. Answers the place after it in the output.
@@ -233,5 +263,8 @@ fn answer(s: &[u8], out: &mut [u8], wrote: usize) -> usize {
     if letter == b'I' {
         return image::answer_reading(s, out, wrote);
     }
-    image::answer_writing(s, out, wrote)
+    if letter == b'O' {
+        return image::answer_writing(s, out, wrote);
+    }
+    writers::answer(s, out, wrote)
 }

@@ -39,8 +39,12 @@ pub(crate) fn put(out: &mut [u8], at: usize, text: &[u8]) -> usize {
 
 // A tab and a number.
 pub(crate) fn field(out: &mut [u8], at: usize, n: u32) -> usize {
+    long_field(out, at, n as u64)
+}
+
+pub(crate) fn long_field(out: &mut [u8], at: usize, n: u64) -> usize {
     let mut digits = [0u8; 20];
-    let k = io::decimal(n as u64, &mut digits);
+    let k = io::decimal(n, &mut digits);
     let to = put(out, at, b"\t");
     put(out, to, &digits[..k])
 }

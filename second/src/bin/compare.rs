@@ -9,6 +9,7 @@ const USAGE: &str = "usage: compare [STEPS [SEED]] [OPTION NUMBER]...
   --singles N       damaged scripts with a process of their own (400)
   --others N        soundness, word and image cases (60000)
   --methods N       steps by the table's methods (40000)
+  --writers N       lines by the writers' functions (60000)
   --jobs N          processes at a time (the machine's, at most 4)
   --shrink-seconds N  time for shrinking a script that shows a difference (120)
   --limit N         seconds one process may take (600)
@@ -29,6 +30,7 @@ fn main() {
         singles: 400,
         others: 60_000,
         methods: 40_000,
+        writers: 60_000,
         jobs: cores.min(4),
         shrink_seconds: 120,
         limit: 600,
@@ -51,6 +53,7 @@ fn main() {
             "--singles" => options.singles = value(),
             "--others" => options.others = value(),
             "--methods" => options.methods = value(),
+            "--writers" => options.writers = value(),
             "--jobs" => options.jobs = value().clamp(1, 64) as usize,
             "--shrink-seconds" => options.shrink_seconds = value(),
             "--limit" => options.limit = value(),
