@@ -6,18 +6,12 @@ use lib.ListN.{length, set, length-set}
 use lib.Seq.{getD-set-same, getD-set-other}
 use Rattle.ticket.specs.declared.kinds.Ticket.{Ticket}
 use Rattle.parts.specs.Parts.{cores, units, blank, idle, absentUnit, registerIn}
-use Rattle.block.specs.Table.{coreOf, unitOf, registerOf, withUnit, withRegister, withCore, withCounter}
+use Rattle.block.specs.Table.{coreOf, unitOf, registerOf, withUnit, withRegister, withCore, withCounter, Shaped}
 use Rattle.parts.specs.declared.kinds.Register.{Register}
 use Rattle.parts.specs.declared.kinds.LockUnit.{LockUnit}
 use Rattle.parts.specs.declared.kinds.Core.{Core}
 use Rattle.block.specs.declared.table.Table.{Table}
 use Rattle.parts.proofs.Along.{same-or-not}
-
--- the arrays have their lengths, as those of every table that a program holds
-pub record Shaped (t : Table) : Type 0 where
-  pub cores-long : length (t .cores) ≡ cores
-  pub units-long : length (t .units) ≡ units
-  pub registers-long : (u : ℕ) → u < units → length (unitOf t u .registers) ≡ cores
 
 module _ (t : Table) where
   pub core-same : (k : ℕ) (c : Core) → Shaped t → k < cores → coreOf (withCore t k c) k ≡ c

@@ -42,7 +42,7 @@ use Rattle.effects.specs.declared.kinds.Move.the-variants.{Enter, GiveUp}
 use Rattle.effects.specs.declared.kinds.Effect.{Effect}
 use Rattle.plan.specs.Plan.{refuse, withUnits, entered, givenUp, carryOut, decided, planStep}
 use Rattle.plan.specs.declared.planning.Plan.{Plan}
-use Rattle.block.specs.Table.{coreOf, unitOf, registerOf, withUnits as allUnits, withUnit, withRegister, withCore, withCounter}
+use Rattle.block.specs.Table.{coreOf, unitOf, registerOf, withUnits as allUnits, withUnit, withRegister, withCore, withCounter, Shaped}
 use Rattle.block.specs.Sound.{sound}
 use Rattle.block.specs.Parts.{Sound}
 use Rattle.block.specs.Steps.{verdict, awaited, effectOn, giveUp, affected, moves, settled, performed, refusal, answered, onSound}
@@ -52,7 +52,6 @@ use Rattle.block.specs.declared.stepped.Stepped.{Stepped}
 use Rattle.parts.proofs.Bools.{and-left, or-cases}
 use Rattle.parts.proofs.Ranging.{cores-few}
 use Rattle.places.proofs.Placing.{core-itself, unit-itself}
-use Rattle.block.proofs.Access.{Shaped}
 use Rattle.block.proofs.Parts.{parts}
 use Rattle.block.proofs.Touched.{CalmTable, changed, freedTwo, settledUnit}
 use Rattle.block.proofs.Touching.{settled-none, settled-one, settled-two}

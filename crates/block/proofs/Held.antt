@@ -8,9 +8,9 @@ use denote.Shadow.{shadow}
 use mir.Val.{Val}
 use lib.ListN.{length, getD, length-map}
 use Rattle.parts.specs.Parts.{cores, units, absentUnit}
+use Rattle.block.specs.Table.{Shaped}
 use Rattle.parts.specs.declared.kinds.LockUnit.{LockUnit}
 use Rattle.block.specs.declared.table.Table.{Table}
-use Rattle.block.proofs.Access.{Shaped}
 use Rattle.parts.proofs.kinds.LockUnit as U
 use Rattle.parts.proofs.kinds.Register as R
 use Rattle.parts.proofs.kinds.Core as C

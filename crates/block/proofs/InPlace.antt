@@ -10,7 +10,7 @@ use Rattle.parts.specs.declared.answer.Step.{Step}
 use Rattle.places.specs.Places.{corePlace, unitPlace, otherPlace}
 use Rattle.plan.specs.Plan.{planStep}
 use Rattle.plan.specs.declared.planning.Plan.{Plan}
-use Rattle.block.specs.Table.{coreOf, unitOf}
+use Rattle.block.specs.Table.{coreOf, unitOf, Shaped}
 use Rattle.block.specs.Sound.{sound}
 use Rattle.block.specs.Steps.{onSound}
 use Rattle.block.specs.PutBack.{putBack}
@@ -18,7 +18,6 @@ use Rattle.block.specs.declared.table.Table.{Table}
 use Rattle.block.specs.declared.stepped.Stepped.{Stepped}
 use Rattle.parts.proofs.Ranging.{cores-few}
 use Rattle.places.proofs.Placing.{core-place-within, unit-place-within, other-place-within}
-use Rattle.block.proofs.Access.{Shaped}
 use Rattle.block.proofs.Parts.{parts}
 use Rattle.block.proofs.ByParts.{by-parts}
 

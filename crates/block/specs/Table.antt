@@ -1,9 +1,10 @@
 -- "The table": reading it by core and unit number, and the changes that the moves are made of.
 use mathlib.Core.List.{List}
-use Prim.Native.Nat.{ℕ, _+_}
-use lib.ListN.{getD, set}
+use Prim.Native.Nat.{ℕ, _+_, _<_}
+use mathlib.Core.Path.{_≡_}
+use lib.ListN.{length, getD, set}
 use Rattle.ticket.specs.declared.kinds.Ticket.{Ticket}
-use Rattle.parts.specs.Parts.{idle, absentUnit, registerIn, registered}
+use Rattle.parts.specs.Parts.{cores, units, idle, absentUnit, registerIn, registered}
 use Rattle.parts.specs.declared.kinds.Register.{Register}
 use Rattle.parts.specs.declared.kinds.LockUnit.{LockUnit}
 use Rattle.parts.specs.declared.kinds.Core.{Core}
@@ -36,3 +37,9 @@ withCore t k c = record { units = t .units; cores = set (t .cores) k c; counts =
 
 abbrev pub withCounter : Table → Ticket → Table
 withCounter t n = record { units = t .units; cores = t .cores; counts = t .counts; counter = n }
+
+-- the arrays have their lengths, as those of every table that a program holds
+pub record Shaped (t : Table) : Type 0 where
+  pub cores-long : length (t .cores) ≡ cores
+  pub units-long : length (t .units) ≡ units
+  pub registers-long : (u : ℕ) → u < units → length (unitOf t u .registers) ≡ cores

@@ -10,14 +10,15 @@ use native.Mathlib.Omega.{arith}
 use lib.ListN.{length, length-append}
 use borrow.Author.Tests.{leb-false}
 use Rattle.digits.specs.Text.{pasted}
-use Rattle.calls.specs.Call.{Desk, Ended, runAt, translated, call}
+use Rattle.calls.specs.Call.{Desk, Ended, runAt, translated}
+use Rattle.calls.specs.Claims.{leaves, EnoughRoom}
 use Rattle.stops.specs.declared.run.Run.{Run}
 use Rattle.stops.specs.declared.run.Stop.{Stop}
 use Rattle.stops.specs.declared.run.Stop.the-variants.{NoRoom}
 use Rattle.calls.proofs.Pasting.{fits-says, pasted-nothing, pasted-twice}
 use Rattle.calls.proofs.Asked.{Reply, asked, ran, replied, asked-other, asked-within, asked-more, runOn, replyOn, askedOn, asked-on}
 use Rattle.calls.proofs.Along.{Goes, Halts, along}
-use Rattle.calls.proofs.Kept.{leaves, length-kept}
+use Rattle.calls.proofs.Kept.{length-kept}
 
 -- Chains of replies
 
@@ -206,8 +207,7 @@ runs-out s (suc f) r h = go (asked r s) refl (runs-out s f)
     go (inr why) e later = record { replies = []; last = r; why = why; chain = refl; end = e }
 
 -- so for every script there is room enough
-pub enough-room :
-    (r : Run) (s : List ℕ) → (n : ℕ) × ((out : List ℕ) → n ≤ length out → call r s out .stopped .why ≢ NoRoom)
+pub enough-room : EnoughRoom
 enough-room r s =
     let z = runs-out s (suc (length s - r .place)) r (omega arith) in (
       r .wrote + length (said (z .replies)),

@@ -2,7 +2,7 @@
 -- line that is read is byte for byte the step as it is written, so each turn takes one step's bytes from the script, and writes that
 -- step's line after those before it.
 use Prim.Native.Nat.{ℕ, _+_, _-_}
-use mathlib.Core.Bool.{true, false}
+use mathlib.Core.Bool.{true}
 use mathlib.Core.List.{List, [], _∷_, _++_, append-assoc}
 use mathlib.Core.Logic.{_⊎_, inl, inr, ⊎-elim}
 use mathlib.Core.Path.{_≡_, refl, sym, _∙_, ap, subst}
@@ -23,6 +23,7 @@ use Rattle.writing.specs.Writing.{stepBytes, headerBytes}
 use Rattle.writing.proofs.AsWritten.{step-read-is-written, header-read-is-written}
 use Rattle.calls.specs.Call.{Desk, Ended, halted, translated}
 use Rattle.calls.specs.Columns.{script, columns, Columned, Opened, Untouched}
+use Rattle.calls.specs.Claims.{ColumnsWritten, OpeningWritten}
 use Rattle.stops.specs.declared.run.Stop.{Stop}
 use Rattle.calls.proofs.Fuel.{on, stop}
 use Rattle.calls.proofs.Pasting.{fits-says, pasted-nothing, pasted-twice}
@@ -99,7 +100,7 @@ stepping-worked d s a e w y later =
     (line-off s (stepBytes (y .x)) (d .run .place) (a .next) (k .0) (k .1)) (k .1)
     (subst (λ (z : Reply). Columned (replied d z) s e) (y .is) later)
 
-pub columns-written : (d : Desk) (s : List ℕ) → d .run .headed ≡ true → Columned d s (translated d s)
+pub columns-written : ColumnsWritten
 columns-written d s =
     along s (λ (d : Desk) (e : Ended). d .run .headed ≡ true → Columned d s e)
     (λ (d : Desk) (why : Stop) (w : Halts d s why) h. none-worked d s why h)
@@ -148,8 +149,7 @@ opening-worked d s a e w y later =
     (line-off s (headerBytes letterT (y .c) (y .n)) (d .run .place) (a .next) (k .0) (k .1)) (k .1)
     (subst (λ (z : Reply). Columned (replied d z) s e) (y .is) later)
 
-pub opening-written :
-    (d : Desk) (s : List ℕ) → d .run .headed ≡ false → Untouched d (translated d s) ⊎ Opened d s (translated d s)
+pub opening-written : OpeningWritten
 opening-written d s h = go (next-line d s)
   where
     answered :

@@ -38,6 +38,7 @@ use Rattle.lines.proofs.Turns.{found-within}
 use Rattle.stops.specs.Run.{stepsMost}
 use Rattle.stops.specs.Due.{lineDue, due}
 use Rattle.calls.specs.Call.{Desk, answered, worked, opening, turn, halted, lines, translated}
+use Rattle.calls.specs.Claims.{Ends}
 use Rattle.stops.specs.declared.todo.Todo.the-variants.{Stop as Halt}
 use Rattle.stops.specs.declared.run.Stop.{Stop}
 use Rattle.stops.specs.declared.run.Stop.the-variants.{Finished, NoRoom, TooMany}
@@ -162,11 +163,7 @@ both-ways :
 both-ways d s f g (inl d') later = later d' refl
 both-ways d s f g (inr why) later = refl
 
-pub fuel :
-    (d : Desk) (s : List ℕ) (f g : ℕ) →
-    length s - d .run .place < f →
-    length s - d .run .place < g →
-    lines f d s ≡ lines g d s
+pub fuel : Ends
 unfolding lines
 fuel d s zero g h k = absurd (not-suc-le-zero h)
 fuel d s (suc f) zero h k = absurd (not-suc-le-zero k)

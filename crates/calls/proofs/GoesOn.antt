@@ -5,6 +5,7 @@ use mathlib.Core.List.{List, _++_}
 use mathlib.Core.Logic.{inl}
 use mathlib.Core.Path.{_≡_, refl, sym, _∙_, ap}
 use Rattle.calls.specs.Call.{Desk, Ended, turn, translated}
+use Rattle.calls.specs.Claims.{GoesOn}
 use Rattle.stops.specs.declared.run.Stop.{Stop}
 use Rattle.calls.proofs.Fuel.{on}
 use Rattle.calls.proofs.Pasting.{fits-says, fits-more, pasted-more}
@@ -26,11 +27,7 @@ turn-roomier d s more room a w =
     turn-on (roomier d room) (s ++ more) a (asked-more (d .run) s more a (w .asks)) f ∙
     ap (λ (o : List ℕ). inl (record { run = ran (d .run) a; out = o })) (pasted-more (d .out) room (d .run .wrote) (a .bytes) h)
 
-pub goes-on :
-    (d : Desk) (s more room : List ℕ) →
-    let e = translated d s in
-    translated (record { run = e .stopped .run; out = e .out ++ room }) (s ++ more)
-    ≡ translated (record { run = d .run; out = d .out ++ room }) (s ++ more)
+pub goes-on : GoesOn
 goes-on d s more room =
     along s (λ (d : Desk) (e : Ended). translated (again e room) (s ++ more) ≡ translated (roomier d room) (s ++ more))
     (λ (d : Desk) (why : Stop) (w : Halts d s why). refl)

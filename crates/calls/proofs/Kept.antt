@@ -3,26 +3,22 @@
 -- place after it. So a call leaves the bytes before its first line and those past its last one, and its stop is the next line's.
 use Prim.Native.Nat.{ℕ, _+_, _-_, _≤_}
 use mathlib.Core.List.{List}
-use mathlib.Core.Logic.{inr}
 use mathlib.Core.Path.{_≡_, refl, sym, _∙_, ap, subst}
 use native.Mathlib.Nat.{le-refl}
 use native.Mathlib.Omega.{arith}
 use lib.ListN.{length, take, drop}
 use lib.Seq.{take-take, drop-drop}
-use Rattle.calls.specs.Call.{Desk, Ended, turn, translated}
+use Rattle.calls.specs.Call.{Desk, Ended, translated}
 use Rattle.calls.specs.Columns.{Untouched}
+use Rattle.calls.specs.Claims.{leaves, RefusedUnchanged, StopsThere, LengthKept, BeforeKept, FurtherKept}
 use Rattle.stops.specs.declared.run.Stop.{Stop}
 use Rattle.calls.proofs.Fuel.{stop}
 use Rattle.calls.proofs.Pasting.{fits-says, take-before, drop-after, pasted-length}
 use Rattle.calls.proofs.Asked.{Reply, replied}
 use Rattle.calls.proofs.Along.{Goes, Halts, halts-turn, along}
 
--- the desk that a call leaves
-abbrev pub leaves : Ended → Desk
-leaves e = record { run = e .stopped .run; out = e .out }
-
 -- a desk at which the next line stops the run is handed back as it is
-pub refused-unchanged : (d : Desk) (s : List ℕ) (why : Stop) → turn d s ≡ inr why → Untouched d (translated d s)
+pub refused-unchanged : RefusedUnchanged
 refused-unchanged d s why e = subst (Untouched d) (sym (stop d s why e)) (record { run = refl; out = refl })
 
 -- the next line, where a call stopped, stops the run for that reason
@@ -33,7 +29,7 @@ halts-there d s =
     (λ (d : Desk) (a : Reply) (e : Ended) (w : Goes d s a) later. later)
     d
 
-pub stops-there : (d : Desk) (s : List ℕ) → let e = translated d s in turn (leaves e) s ≡ inr (e .stopped .why)
+pub stops-there : StopsThere
 stops-there d s = halts-turn (leaves (translated d s)) s (translated d s .stopped .why) (halts-there d s)
 
 -- what a call leaves of the output
@@ -88,13 +84,12 @@ kept d s =
     d
 
 -- the output is as long as before, and the bytes before the place at entry are as they were
-pub length-kept : (d : Desk) (s : List ℕ) → length (translated d s .out) ≡ length (d .out)
+pub length-kept : LengthKept
 length-kept d s = kept d s .size
 
-pub before-kept : (d : Desk) (s : List ℕ) → take (d .run .wrote) (translated d s .out) ≡ take (d .run .wrote) (d .out)
+pub before-kept : BeforeKept
 before-kept d s = kept d s .before
 
 -- so are those past the last line written
-pub further-kept :
-    (d : Desk) (s : List ℕ) → let e = translated d s in drop (e .stopped .run .wrote) (e .out) ≡ drop (e .stopped .run .wrote) (d .out)
+pub further-kept : FurtherKept
 further-kept d s = kept d s .further

@@ -11,13 +11,13 @@ use lib.ListN.{length, take, drop, length-append, take-append-drop}
 use lib.Seq.{drop-append-add, length-take-le}
 use Rattle.calls.specs.Call.{Desk, Ended, call}
 use Rattle.calls.specs.Pieces.{Piece, Going, fromStart, begun, given, pieces, allMore, inOne}
+use Rattle.calls.specs.Claims.{leaves, OneCall, OneCallRoom}
 use Rattle.stops.specs.declared.run.Run.{Run}
 use Rattle.stops.specs.declared.run.Stop.{Stop}
 use Rattle.stops.specs.declared.run.Stop.the-variants.{NoRoom}
 use Rattle.calls.proofs.Pasting.{take-with}
 use Rattle.calls.proofs.Asked.{Reply, asked, runOn, replyOn, askedOn, asked-on}
 use Rattle.calls.proofs.Along.{Halts}
-use Rattle.calls.proofs.Kept.{leaves}
 use Rattle.calls.proofs.Chains.{Chain, said, said-append, chain-append, chain-within, chain-more, chain-on, said-on, beginning, at-end, Stretch, stretch, room-enough}
 
 -- the stop there is
@@ -171,19 +171,11 @@ same-end r s g h k l other-k other-l =
     λ i. record { run = run i; rest = rest i; text = text i; why = why i }
 
 -- both stopped for another reason than room: they leave the same
-pub one-call :
-    (r : Run) (p : Piece) (ps : List Piece) (room : List ℕ) →
-    pieces (begun r) (p ∷ ps) .why ≢ NoRoom →
-    given (begun r) (inOne (p ∷ ps) room) .why ≢ NoRoom →
-    pieces (begun r) (p ∷ ps) ≡ given (begun r) (inOne (p ∷ ps) room)
+pub one-call : OneCall
 one-call r p ps room = same-end r (allMore (p ∷ ps)) _ _ (many-stop r p ps) (one-stops r p ps room)
 
 -- room for what the pieces' calls wrote is enough for the one call
-pub one-call-room :
-    (r : Run) (p : Piece) (ps : List Piece) (room : List ℕ) →
-    pieces (begun r) (p ∷ ps) .why ≢ NoRoom →
-    length (pieces (begun r) (p ∷ ps) .text) ≤ length room →
-    pieces (begun r) (p ∷ ps) ≡ given (begun r) (inOne (p ∷ ps) room)
+pub one-call-room : OneCallRoom
 one-call-room r p ps room other h =
     let s = allMore (p ∷ ps) in
     let k = many-stop r p ps in

@@ -1,3 +1,4 @@
 pub mod Call
 pub mod Pieces
 pub mod Columns
+pub mod Claims

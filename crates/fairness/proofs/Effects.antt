@@ -26,7 +26,7 @@ use Rattle.refusals.specs.Judge.{unless, noCore, noUnit, wrongClass, stretched,
 use Rattle.refusals.specs.declared.verdict.Verdict.{Verdict}
 use Rattle.refusals.specs.declared.verdict.Verdict.the-variants.{Allowed, Refused}
 use Rattle.effects.specs.declared.kinds.Effect.{Effect}
-use Rattle.block.specs.Table.{coreOf, registerOf}
+use Rattle.block.specs.Table.{coreOf, registerOf, Shaped}
 use Rattle.block.specs.Settle.{settle}
 use Rattle.block.specs.Sound.{sound}
 use Rattle.block.specs.Steps.{verdict, effectOn, moves, performed, onSound, step, refusal}
@@ -34,7 +34,7 @@ use Rattle.block.specs.declared.table.Table.{Table}
 use Rattle.block.specs.declared.stepped.Stepped.{Stepped}
 use Rattle.parts.proofs.Along.{same-or-not}
 use Rattle.parts.proofs.Bools.{clash}
-use Rattle.block.proofs.Access.{Shaped, register-unit}
+use Rattle.block.proofs.Access.{register-unit}
 use Rattle.block.proofs.Allows.{may-request, may-nest, may-poll, may-come-back}
 use Rattle.block.proofs.Parts.{whole}
 use Rattle.block.proofs.Standing.{units-few, bare}

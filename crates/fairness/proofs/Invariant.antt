@@ -20,7 +20,7 @@ use Rattle.parts.specs.Fold.{one}
 use Rattle.parts.specs.Answer.{whose}
 use Rattle.parts.specs.State.{isIdle}
 use Rattle.parts.specs.Parts.{cores, unitNo, idle, core}
-use Rattle.block.specs.Table.{coreOf}
+use Rattle.block.specs.Table.{coreOf, Shaped}
 use Rattle.parts.specs.Range.{inRange}
 use Rattle.building.specs.Build.{fresh}
 use Rattle.block.specs.Steps.{effectOn, step}
@@ -31,7 +31,6 @@ use Rattle.parts.specs.declared.kinds.State.the-variants.{Waiting}
 use Rattle.block.specs.declared.table.Table.{Table}
 use Rattle.parts.specs.declared.answer.Step.{Step}
 use Rattle.parts.specs.declared.answer.Step.the-variants.{R, N, P, I, C, L}
-use Rattle.block.proofs.Access.{Shaped}
 use Rattle.parts.proofs.Along.{same-or-not}
 use Rattle.block.proofs.Allows.{may-request, may-nest, may-interrupt, may-come-back}
 use Rattle.parts.proofs.Bools.{and-left, clash}

@@ -13,7 +13,7 @@ use lib.Seq.{getD-set-same, getD-set-other}
 use borrow.Author.Tests.{eqb-true, eq-eqb}
 use Rattle.ticket.specs.declared.kinds.CoreNo.{CoreNo}
 use Rattle.parts.specs.Parts.{units, coreNo, blank, flagged, registerIn}
-use Rattle.block.specs.Table.{unitOf, registerOf}
+use Rattle.block.specs.Table.{unitOf, registerOf, Shaped}
 use Rattle.settling.specs.Line.{flags, next}
 use Rattle.block.specs.Settle.{give, settleAt, settleNext, settle}
 use Rattle.parts.specs.declared.kinds.Register.{Register}
@@ -21,7 +21,7 @@ use Rattle.parts.specs.declared.kinds.LockUnit.{LockUnit}
 use Rattle.block.specs.declared.table.Table.{Table}
 use Rattle.settling.specs.declared.line.Best.{Best}
 use Rattle.settling.specs.declared.line.Best.the-variants.{Nobody, Won}
-use Rattle.block.proofs.Access.{Shaped, unit-same}
+use Rattle.block.proofs.Access.{unit-same}
 use Rattle.parts.proofs.Along.{same-or-not, to-last, along}
 use Rattle.settling.proofs.Picking.{next-won}
 use Rattle.block.proofs.Touching.{settleAt-unit}

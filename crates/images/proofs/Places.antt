@@ -16,10 +16,11 @@ use Rattle.parts.specs.declared.kinds.Counts.{Counts}
 use Rattle.parts.specs.declared.kinds.LockUnit.{LockUnit}
 use Rattle.parts.specs.declared.kinds.Register.{Register}
 use Rattle.block.specs.declared.table.Table.{Table}
-use Rattle.block.proofs.Access.{Shaped, register-same, register-core, register-unit, shaped-register}
+use Rattle.block.proofs.Access.{register-same, register-core, register-unit, shaped-register}
 use Rattle.parts.proofs.Along.{same-or-not, along, to-last}
 use Rattle.words.specs.Word.{registerOf}
 use Rattle.images.specs.Image.{wordCount, emptyUnits, registerAt, withRegisterAt, placeWord, unitsOf}
+use Rattle.block.specs.Table.{Shaped}
 use Rattle.images.proofs.Ranges.{unit-in, core-in}
 
 -- a list after its first n elements were set, one after another

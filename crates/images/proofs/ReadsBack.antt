@@ -21,6 +21,7 @@ use Rattle.words.proofs.Good.{narrow, good-packable}
 use Rattle.words.proofs.Bits.{word-register, register-word}
 use Rattle.words.proofs.ReadsBack.{shows}
 use Rattle.images.specs.Image.{wordCount, registerAt, goodWord, goodImage, unitsOf, readImage, writable, wordsInto, writeAnswer, writeLeft}
+use Rattle.images.specs.Claims.{ImageReadsBack, ImageIsWritten, PastUnread}
 use Rattle.images.specs.declared.image.Image.{Image}
 use Rattle.images.specs.declared.image.ImageAnswer.the-variants.{Done, OutOfRange, BadImage}
 use Rattle.images.proofs.Good.{word-total, word-good, room-total, register-packable}
@@ -102,38 +103,27 @@ module _ (c : Counts) where
     leaves : writeLeft c xs out ≡ wordsInto c xs out
     leaves = rw (e, f)
 
-  -- an image that was written is read, as the registers that were written
-  pub write-read :
-      (xs : List LockUnit) (out : List ℕ) →
-      ((i : ℕ) → i < wordCount c → registerAt c xs i .ticket .0 < 65536) →
-      writeAnswer c xs (length out) ≡ Done →
-      (readImage c (writeLeft c xs out) .answer ≡ Done) ×
-      ((i : ℕ) → i < wordCount c → registerAt c (readImage c (writeLeft c xs out) .units) i ≡ registerAt c xs i)
-  write-read xs out low done =
-      let p = passed (inRange c) (writable c xs (length out)) done in
-      let l = leaves xs out (p .0) (p .1) in
-      let r = ap (readImage c) l ∙ reads (wordsInto c xs out) (p .0) (written-good c (p .0) xs out (p .1) low) in (
-        ap (λ (x : Image). x .answer) r,
-        λ i h. ap (λ (x : Image). registerAt c (x .units) i) r ∙ written-registers c (p .0) xs out (p .1) low i h,
-      )
+pub write-read : ImageReadsBack
+write-read c xs out low done =
+    let p = passed (inRange c) (writable c xs (length out)) done in
+    let l = leaves c xs out (p .0) (p .1) in
+    let r = ap (readImage c) l ∙ reads c (wordsInto c xs out) (p .0) (written-good c (p .0) xs out (p .1) low) in (
+      ap (λ (x : Image). x .answer) r,
+      λ i h. ap (λ (x : Image). registerAt c (x .units) i) r ∙ written-registers c (p .0) xs out (p .1) low i h,
+    )
 
-  -- an image that was read is written, as the same words
-  pub read-write :
-      (ws out : List ℕ) →
-      length out ≡ length ws →
-      readImage c ws .answer ≡ Done →
-      (writeAnswer c (readImage c ws .units) (length out) ≡ Done) × (writeLeft c (readImage c ws .units) out ≡ ws)
-  read-write ws out same done =
-      let p = passed (inRange c) (goodImage c ws) (sym (two-choices (λ (x : Image). x .answer) (inRange c) (goodImage c ws) _ _ _) ∙ done) in
-      let r = reads ws (p .0) (p .1) in
-      let able = read-writable c (p .0) ws out (p .1) same in (
-        ap (λ (x : Image). writeAnswer c (x .units) (length out)) r ∙ writes (unitsOf c ws) out (p .0) able,
-        ap (λ (x : Image). writeLeft c (x .units) out) r ∙
-            leaves (unitsOf c ws) out (p .0) able ∙
-            read-words c (p .0) ws out (p .1) same,
-      )
+pub read-write : ImageIsWritten
+read-write c ws out same done =
+    let p = passed (inRange c) (goodImage c ws) (sym (two-choices (λ (x : Image). x .answer) (inRange c) (goodImage c ws) _ _ _) ∙ done) in
+    let r = reads c ws (p .0) (p .1) in
+    let able = read-writable c (p .0) ws out (p .1) same in (
+      ap (λ (x : Image). writeAnswer c (x .units) (length out)) r ∙ writes c (unitsOf c ws) out (p .0) able,
+      ap (λ (x : Image). writeLeft c (x .units) out) r ∙
+          leaves c (unitsOf c ws) out (p .0) able ∙
+          read-words c (p .0) ws out (p .1) same,
+    )
 
--- "What stands past the counts isn't read": units with the same registers within the counts are written the same
+-- units with the same registers within the counts
 module _
     (c : Counts)
     (xs ys : List LockUnit)
@@ -154,9 +144,8 @@ module _
         out
         (λ i h o. ap (λ (r : Register). set o i (wordOf r)) (same i h))
 
-    pub past-unread :
-        (writeAnswer c xs (length out) ≡ writeAnswer c ys (length out)) × (writeLeft c xs out ≡ writeLeft c ys out)
-    past-unread = (
-      ap (λ (b : Bool). cond (inRange c) (cond b Done BadImage) OutOfRange) same-writable,
-      ap₂ (λ (b : Bool) (o : List ℕ). cond (inRange c) (cond b o out) out) same-writable same-words,
-    )
+pub past-unread : PastUnread
+past-unread c xs ys out same = (
+  ap (λ (b : Bool). cond (inRange c) (cond b Done BadImage) OutOfRange) (same-writable c xs ys out same),
+  ap₂ (λ (b : Bool) (o : List ℕ). cond (inRange c) (cond b o out) out) (same-writable c xs ys out same) (same-words c xs ys out same),
+)

@@ -12,7 +12,7 @@ use Rattle.ticket.specs.declared.kinds.UnitNo.{UnitNo}
 use Rattle.parts.specs.Fold.{some, one}
 use Rattle.parts.specs.State.{isIdle, twoStage, unserved}
 use Rattle.parts.specs.Parts.{cores, units, core}
-use Rattle.block.specs.Table.{coreOf, unitOf, registerOf}
+use Rattle.block.specs.Table.{coreOf, unitOf, registerOf, Shaped}
 use Rattle.settling.specs.Line.{flags}
 use Rattle.block.specs.Sound as S
 use Rattle.block.specs.Parts.{CoreSound, Sound}
@@ -29,7 +29,6 @@ use Rattle.parts.proofs.Bools.{and-left, and-right, and-both, or-left, or-right
 use Rattle.parts.proofs.Folds.{some-at, at-some, count-change}
 use Rattle.parts.proofs.Along.{same-or-not}
 use Rattle.parts.proofs.Ranging.{cores-few}
-use Rattle.block.proofs.Access.{Shaped}
 use Rattle.laws.proofs.Almost.{Almost}
 use Rattle.laws.proofs.Moving.{Moved, affected-moved, shown, affected-shown, shown-flag}
 

@@ -17,7 +17,7 @@ use Rattle.ticket.specs.declared.kinds.Grant.{Grant}
 use Rattle.ticket.specs.declared.kinds.Ticket.{Ticket}
 use Rattle.parts.specs.State.{stands, twoStage, waits}
 use Rattle.parts.specs.Parts.{cores, units, unitNo, standing, idle, registerIn}
-use Rattle.block.specs.Table.{coreOf, unitOf, registerOf, unitCount, withRegister, withCore, withCounter}
+use Rattle.block.specs.Table.{coreOf, unitOf, registerOf, unitCount, withRegister, withCore, withCounter, Shaped}
 use Rattle.parts.specs.Answer.{packed}
 use Rattle.block.specs.Settle.{Settling, give, settleAt, settleNext, settle}
 use Rattle.settling.specs.Line.{flags, inLine, next, won}
@@ -39,7 +39,6 @@ use Rattle.parts.specs.declared.answer.Step.the-variants.{R, N, P, I, C, L}
 use Rattle.block.specs.declared.stepped.Stepped.{Stepped}
 use Rattle.refusals.specs.declared.verdict.Verdict.{Verdict}
 use Rattle.refusals.specs.declared.verdict.Verdict.the-variants.{Allowed, Refused}
-use Rattle.block.proofs.Access.{Shaped}
 use Rattle.parts.proofs.Along.{same-or-not, along, upTo-cong}
 use Rattle.laws.proofs.Almost.{Almost}
 use Rattle.laws.proofs.Agreeing.{line-waits}

@@ -11,9 +11,10 @@ use Rattle.ticket.specs.declared.kinds.Ticket.{Ticket}
 use Rattle.parts.specs.Fold.{one}
 use Rattle.parts.specs.State.{isIdle}
 use Rattle.parts.specs.Parts.{cores, units, blank, idle, absentUnit, emptyUnit, registerIn}
-use Rattle.block.specs.Table.{coreOf, unitOf, registerOf}
+use Rattle.block.specs.Table.{coreOf, unitOf, registerOf, Shaped}
+use Rattle.laws.specs.Claims.{BuiltSound}
 use Rattle.parts.specs.Range.{inRange}
-use Rattle.building.specs.Build.{fresh, build}
+use Rattle.building.specs.Build.{fresh}
 use Rattle.settling.specs.Line.{flags}
 use Rattle.block.specs.Settle.{settle}
 use Rattle.block.specs.Sound as S
@@ -33,7 +34,6 @@ use Rattle.building.specs.declared.building.Built.{Built}
 use Rattle.parts.specs.declared.answer.Answer.the-variants.{Done, OutOfRange}
 use Rattle.parts.proofs.Bools.{or-left, or-right}
 use Rattle.parts.proofs.Folds.{none-some, none-count}
-use Rattle.block.proofs.Access.{Shaped}
 use Rattle.laws.proofs.Almost.{Almost}
 use Rattle.block.proofs.Parts.{parts, whole}
 use Rattle.laws.proofs.Settling.{settle-shaped, settle-sound}
@@ -119,12 +119,13 @@ module _ (c : Counts) (n : Ticket) where
       })
 
 -- building always gives a sound table
-pub build-sound : (c : Counts) (n : Ticket) → sound (build c n .table) ≡ true
-build-sound c n = go (inRange c) refl
+pub built-sound : BuiltSound
+built-sound c n = go (inRange c) refl
   where
     built : Bool → Built
     built b = cond b (record { table = fresh c n; answer = Done }) (record { table = fresh (record { cores = 1; first = 1; second = 0 }) (ticket 0); answer = OutOfRange })
 
-    go : (b : Bool) → inRange c ≡ b → sound (built b .table) ≡ true
-    go true e = fresh-sound c n e
-    go false e = fresh-sound (record { cores = 1; first = 1; second = 0 }) (ticket 0) refl
+    go : (b : Bool) → inRange c ≡ b → (sound (built b .table) ≡ true) × Shaped (built b .table)
+    go true e = (fresh-sound c n e, fresh-shaped c n)
+    go false e =
+        let least : Counts = record { cores = 1; first = 1; second = 0 } in (fresh-sound least (ticket 0) refl, fresh-shaped least (ticket 0))

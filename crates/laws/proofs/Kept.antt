@@ -29,7 +29,7 @@ use Rattle.refusals.specs.declared.verdict.Verdict.the-variants.{Allowed}
 use Rattle.effects.specs.Effect.{request, release, heir}
 use Rattle.effects.specs.declared.kinds.Move.the-variants.{Stay, Enter, Carry, GiveUp}
 use Rattle.effects.specs.declared.kinds.Effect.{Effect}
-use Rattle.block.specs.Table.{coreOf, unitOf, registerOf, unitCount}
+use Rattle.block.specs.Table.{coreOf, unitOf, registerOf, unitCount, Shaped}
 use Rattle.block.specs.Sound as S
 use Rattle.block.specs.Parts.{Sound}
 use Rattle.block.specs.Steps.{verdict, effectOn, affected, moves}
@@ -40,7 +40,6 @@ use Rattle.parts.proofs.Along.{same-or-not}
 use Rattle.parts.proofs.Bools.{and-left, and-right, and-both, or-left, or-right, or-cases, clash}
 use Rattle.parts.proofs.Folds.{some-at, at-some, some-none, count-unique}
 use Rattle.settling.proofs.Picking.{next-won}
-use Rattle.block.proofs.Access.{Shaped}
 use Rattle.block.proofs.Allows.{may-request, may-nest, may-poll, may-come-back, may-interrupt, may-release}
 use Rattle.block.proofs.Standing.{units-few}
 use Rattle.block.proofs.Stepping.{holding, carrying, inherited, poll-moves}

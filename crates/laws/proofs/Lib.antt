@@ -8,3 +8,4 @@ pub mod Oldest
 pub mod Keeping
 pub mod Granting
 pub mod Working
+pub mod Claims

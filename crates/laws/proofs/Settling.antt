@@ -13,7 +13,7 @@ use Rattle.ticket.specs.declared.kinds.Ticket.{Ticket}
 use Rattle.parts.specs.Fold.{some, count, one}
 use Rattle.parts.specs.State.{stands, twoStage, holdsFirst, holdsBoth}
 use Rattle.parts.specs.Parts.{cores, units, flagged, registerIn}
-use Rattle.block.specs.Table.{coreOf, unitOf, registerOf, withRegister}
+use Rattle.block.specs.Table.{coreOf, unitOf, registerOf, withRegister, Shaped}
 use Rattle.block.specs.Settle.{Settling, settleAt, settleNext, settle}
 use Rattle.settling.specs.Line.{flags, inLine}
 use Rattle.block.specs.Sound as S
@@ -25,7 +25,7 @@ use Rattle.parts.specs.declared.kinds.Core.{Core}
 use Rattle.block.specs.declared.table.Table.{Table}
 use Rattle.parts.proofs.Bools.{and-left, and-both, flipped, clash}
 use Rattle.parts.proofs.Folds.{some-at, at-some, none-some, some-none, count-change, count-some, none-count}
-use Rattle.block.proofs.Access.{Shaped, unit-other, register-same, register-core, register-unit, shaped-register}
+use Rattle.block.proofs.Access.{unit-other, register-same, register-core, register-unit, shaped-register}
 use Rattle.parts.proofs.Along.{same-or-not, to-last, along}
 use Rattle.laws.proofs.Almost.{Almost}
 use Rattle.laws.proofs.Agreeing.{flag-at, in-line}

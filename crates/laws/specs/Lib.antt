@@ -1,2 +1,3 @@
 pub mod Granting
 pub mod Shown
+pub mod Claims

@@ -33,6 +33,7 @@ use Rattle.digits.specs.declared.room.Written.the-variants.{Next, OutOfRange, N
 use Rattle.stops.specs.Run.{stepsMost}
 use Rattle.stops.specs.Due.{due, lineDue}
 use Rattle.calls.specs.Call.{Desk, Ended, runAt, stoppedAt, answered, worked, opening, turn, translated, call}
+use Rattle.block.specs.Table.{Shaped}
 use Rattle.stops.specs.declared.todo.Todo.{Todo}
 use Rattle.stops.specs.declared.todo.Todo.the-variants.{Work, Stop as Halt}
 use Rattle.stops.specs.declared.run.Run.{Run}
@@ -41,7 +42,6 @@ use Rattle.stops.specs.declared.run.Stop.the-variants.{NoRoom, Finished, TooMan
 use Rattle.stops.specs.declared.run.Stopped.{Stopped}
 use Rattle.writing.proofs.AsWritten.{header-read-is-written}
 use Rattle.calls.proofs.Fuel.{on, stop}
-use Rattle.block.proofs.Access.{Shaped}
 use Rattle.laws.proofs.Keeping.{step-sound, step-shaped}
 
 -- a line that is to be worked was read, in time, for a table that is fit

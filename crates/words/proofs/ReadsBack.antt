@@ -8,6 +8,7 @@ use borrow.Author.Tests.{lt-leb}
 use Rattle.ticket.specs.Kinds.{ticket}
 use Rattle.parts.specs.declared.kinds.Register.{Register}
 use Rattle.words.specs.Word.{packable, wordOf, pack, registerOf, unpack, isGood}
+use Rattle.words.specs.Claims.{WordReadsBack, WordIsWritten}
 use Rattle.words.specs.declared.word.Packed.the-variants.{Word, Refused}
 use Rattle.words.specs.declared.word.Unpacked.the-variants.{Register as Shown, Refused as Bad}
 use Rattle.words.proofs.Good.{narrow, good-packable}
@@ -39,7 +40,7 @@ shows r low e =
     unpacks (wordOf r) (word-narrow r low) (ap packable same ∙ e) ∙ ap Shown same
 
 -- each register that is accepted reads back
-pub pack-unpack : (r : Register) (w : ℕ) → r .ticket .0 < 65536 → pack r ≡ Word w → unpack w ≡ Shown r
+pub pack-unpack : WordReadsBack
 pack-unpack r w low packed = go (packable r) refl
   where
     go : (b : Bool) → packable r ≡ b → unpack w ≡ Shown r
@@ -53,7 +54,7 @@ pack-unpack r w low packed = go (packable r) refl
         absurd (omega arith)
 
 -- each word that is accepted is the word of its register
-pub unpack-pack : (w : ℕ) (r : Register) → unpack w ≡ Shown r → pack r ≡ Word w
+pub unpack-pack : WordIsWritten
 unpack-pack w r shown =
     let good : isGood (unpack w) ≡ true = ap isGood shown in
     ap pack (shown-own w r shown) ∙ packs (registerOf w) (good-packable w good) ∙ ap Word (register-word w (narrow w good))

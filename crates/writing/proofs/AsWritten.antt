@@ -19,10 +19,11 @@ use Rattle.parts.specs.declared.answer.Step.the-variants.{R, N, P, I, C, L}
 use Rattle.numbers.specs.Bytes.{tab, end}
 use Rattle.lines.specs.Bytes.{lineMost, letterT, letterR, letterN, letterP, letterI, letterC, letterL}
 use Rattle.numbers.specs.Number.{decimal, numberMost, field}
-use Rattle.lines.specs.Reading.{ending, lineEnd, oneNumber, twoNumbers, afterCore, afterLetter, parseStep, stepLine, stepTo, readStep}
-use Rattle.headers.specs.Header.{withCounter, withSecond, withFirst, withCores, parseHeader, headerLine, headerTo, readHeader}
+use Rattle.lines.specs.Reading.{ending, lineEnd, oneNumber, twoNumbers, afterCore, afterLetter, parseStep, stepLine, stepTo}
+use Rattle.headers.specs.Header.{withCounter, withSecond, withFirst, withCores, parseHeader, headerLine, headerTo}
 use Rattle.digits.specs.Text.{tabbed}
 use Rattle.writing.specs.Writing.{lettered, lettered2, stepBytes, headerBytes}
+use Rattle.writing.specs.Claims.{Small, StepIsWritten, HeaderIsWritten}
 use Rattle.numbers.specs.declared.number.Field.{Field}
 use Rattle.numbers.specs.declared.number.Field.the-variants.{Bad, Last, Then}
 use Rattle.lines.specs.declared.reading.Ending.{Ending}
@@ -36,7 +37,6 @@ use Rattle.headers.specs.declared.reading.ParsedHeader.the-variants.{Good as Go
 use Rattle.headers.specs.declared.reading.HeaderLine.{HeaderLine}
 use Rattle.headers.specs.declared.reading.HeaderLine.the-variants.{Header, BadHeader, Unfinished as Unended}
 use Rattle.numbers.proofs.Scanning.{Says, scan-says}
-use Rattle.writing.proofs.ReadsBack.{Small}
 
 -- The line's end
 
@@ -185,10 +185,7 @@ step-to-says s at (At e) (xs, rest, d, is) = rw (up-to-end s xs rest at e d is) 
 step-to-says s at Long says = tt
 step-to-says s at Short says = tt
 
-pub step-read-is-written :
-    (s : List ℕ) (at : ℕ) (x : Step) (next : ℕ) →
-    readStep s at ≡ Line x next →
-    (take (next - at) (drop at s) ≡ stepBytes x) × (next ≡ at + length (stepBytes x)) × Small x
+pub step-read-is-written : StepIsWritten
 step-read-is-written s at x next e = subst (LineSays s at) e (go (leb (length s) at))
   where
     go : (t : Bool) → LineSays s at (cond t Finished (stepTo s at (lineEnd s at)))
@@ -283,13 +280,7 @@ header-to-says s at (At e) (xs, rest, d, is) = rw (up-to-end s xs rest at e d is
 header-to-says s at Long says = tt
 header-to-says s at Short says = tt
 
-pub header-read-is-written :
-    (s : List ℕ) (at : ℕ) (c : Counts) (n : Ticket) (next : ℕ) →
-    readHeader s at ≡ Header c n next →
-    (take (next - at) (drop at s) ≡ headerBytes letterT c n)
-    × (next ≡ at + length (headerBytes letterT c n))
-    × (inRange c ≡ true)
-    × (n .0 ≤ numberMost)
+pub header-read-is-written : HeaderIsWritten
 header-read-is-written s at c n next e = subst (HeaderSays s at) e (go (leb (length s) at))
   where
     go : (t : Bool) → HeaderSays s at (cond t Unended (headerTo s at (lineEnd s at)))

@@ -20,7 +20,7 @@ use Rattle.lines.specs.Bytes.{lineMost, letterT, letterR, letterN, letterP, let
 use Rattle.numbers.specs.Number.{digits, numberMost}
 use Rattle.digits.proofs.Lengths.{decimal-one, decimal-five}
 use Rattle.writing.specs.Writing.{lettered, lettered2, stepBytes, headerBytes}
-use Rattle.writing.proofs.ReadsBack.{Small}
+use Rattle.writing.specs.Claims.{Small}
 
 lettered-most : (letter k : ℕ) → k ≤ numberMost → length (lettered letter k) ≤ lineMost
 lettered-most letter k h = simp length-append (omega (arith, decimal-five k h))

@@ -23,13 +23,13 @@ use Rattle.numbers.specs.Number.{decimal, numberMost, scan, field}
 use Rattle.lines.specs.Reading.{ending, lineEnd, oneNumber, twoNumbers, parseStep, stepLine, readStep}
 use Rattle.headers.specs.Header.{parseHeader, headerLine, readHeader}
 use Rattle.digits.specs.Text.{tabbed}
-use Rattle.writing.specs.Writing.{lettered, lettered2, stepBytes, headerBytes}
+use Rattle.writing.specs.Writing.{lettered, lettered2, headerBytes}
+use Rattle.writing.specs.Claims.{StepReadsBack, HeaderReadsBack}
 use Rattle.numbers.specs.declared.number.Field.the-variants.{Last, Then}
 use Rattle.lines.specs.declared.reading.Ending.the-variants.{At}
 use Rattle.lines.specs.declared.reading.Parsed.the-variants.{Good}
 use Rattle.lines.specs.declared.reading.StepLine.the-variants.{Line}
 use Rattle.headers.specs.declared.reading.ParsedHeader.the-variants.{Good as GoodHeader}
-use Rattle.headers.specs.declared.reading.HeaderLine.the-variants.{Header}
 use Rattle.numbers.proofs.Scanning.{AllDigits, digits-all, digits-most, scan-digits, decimal-length}
 
 -- The line's end
@@ -114,15 +114,6 @@ module _ (s : List ℕ) (i n : ℕ) (most : n ≤ numberMost) where
 
 -- Step lines
 
--- the numbers of a step are numbers that a line can hold
-abbrev pub Small : Step → Type 0
-Small (R k u) = (k .0 ≤ numberMost) × (u .0 ≤ numberMost)
-Small (N k u) = (k .0 ≤ numberMost) × (u .0 ≤ numberMost)
-Small (P k) = k .0 ≤ numberMost
-Small (I k) = k .0 ≤ numberMost
-Small (C k) = k .0 ≤ numberMost
-Small (L k) = k .0 ≤ numberMost
-
 module _ (pre post : List ℕ) (letter k : ℕ) (x : Step) (other : letter ≡ end → ⊥) (most : k ≤ numberMost) where
   one-written :
       oneNumber letter k ≡ Good x →
@@ -150,10 +141,7 @@ module _ (pre post : List ℕ) (letter k : ℕ) (x : Step) (other : letter ≡ e
       let whole : lettered2 letter k u ≡ body ++ (end ∷ []) = sym (append-assoc (letter ∷ tabbed k) (tabbed u) (end ∷ [])) in
       step-line pre post (lettered2 letter k u) body whole plain (omega arith) ∙ simp (first .0, second, is)
 
-pub read-step-written :
-    (pre post : List ℕ) (x : Step) →
-    Small x →
-    readStep (pre ++ (stepBytes x ++ post)) (length pre) ≡ Line x (length pre + length (stepBytes x))
+pub read-step-written : StepReadsBack
 read-step-written pre post (R k u) h = two-written pre post letterR (k .0) (R k u) (λ e. omega arith) (h .0) (u .0) (h .1) refl
 read-step-written pre post (N k u) h = two-written pre post letterN (k .0) (N k u) (λ e. omega arith) (h .0) (u .0) (h .1) refl
 read-step-written pre post (P k) h = one-written pre post letterP (k .0) (P k) (λ e. omega arith) h refl
@@ -228,11 +216,7 @@ module _ (c : Counts) (n : Ticket) where
         let four = field-last header k (n .0) most (three .1) in
         simp (one .0, two .0, three .0, four)
 
-pub read-header-written :
-    (pre post : List ℕ) (c : Counts) (n : Ticket) →
-    inRange c ≡ true →
-    n .0 ≤ numberMost →
-    readHeader (pre ++ (headerBytes letterT c n ++ post)) (length pre) ≡ Header c n (length pre + length (headerBytes letterT c n))
+pub read-header-written : HeaderReadsBack
 read-header-written pre post c n good most =
     header-line pre post (headerBytes letterT c n) (header c n) (header-whole c n) (header-plain c n) (header-few c n good most)
     ∙ simp (header-parsed c n good most, good)

@@ -3,7 +3,7 @@
 use mathlib.Core.Path.{_≡_, refl, sym, _∙_, ap}
 use Rattle.block.specs.Sound.{sound}
 use Rattle.stops.specs.declared.run.Run.{Run}
-use Rattle.laws.proofs.Keeping.{build-sound}
+use Rattle.laws.proofs.Keeping.{built-sound}
 use Rattle.translate.proofs.Turning.{no-header, cut-header, opened-by, out-of-range, no-room-opening}
 use borrow.Author.Needs.{needs}
 use Rattle.translate.proofs.call.from_header.Statement.{statement}
@@ -28,7 +28,7 @@ step-lines-requires : tie.Need-step-lines-requires
 step-lines-requires c κs =
     let q = c .before .fresh-run .ensures in
     let g = c .before .before .before .before .before .before .before .before .before .before .counts .given .0 in
-    (ap (λ (r : Run). r .headed) q, sym (ap (λ (r : Run). sound (r .table)) q ∙ build-sound (g .0) (g .1 .0)))
+    (ap (λ (r : Run). r .headed) q, sym (ap (λ (r : Run). sound (r .table)) q ∙ built-sound (g .0) (g .1 .0) .0))
 
 enum-told : tie.Need-enum-told
 enum-told c = search needs

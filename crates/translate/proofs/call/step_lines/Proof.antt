@@ -12,9 +12,8 @@ use Rattle.parts.specs.Parts.{cores, units}
 use Rattle.block.specs.PutBack.{putBack}
 use Rattle.block.specs.Sound.{sound}
 use Rattle.block.specs.Steps.{onSound}
-use Rattle.block.specs.Table.{coreOf}
+use Rattle.block.specs.Table.{coreOf, Shaped}
 use Rattle.block.specs.declared.stepped.Stepped.{Stepped}
-use Rattle.block.proofs.Access.{Shaped}
 use Rattle.block.proofs.Held.{held}
 use Rattle.block.proofs.InPlace.{core-in, unit-in, other-in, counted, in-place}
 use Rattle.expected.specs.Expected.{expectedBytes}
