@@ -1,4 +1,4 @@
--- A step line whose numbers have one digit each, of four bytes or of six: it is read without looking for its end.
+-- Detail: a step line whose numbers have one digit each, of four bytes or of six, is read without looking for its end.
 use Prim.Native.Nat.{ℕ, _+_, _-_}
 use mathlib.Core.Bool.{Bool, cond, _&&_}
 use mathlib.Core.List.{List}
