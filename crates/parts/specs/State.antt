@@ -1,6 +1,5 @@
 -- "A core is idle; waiting at one unit; holding one unit; waiting at a second while holding a first; holding both; or away in a
--- handler." Four tests tell the states apart as far as the
--- steps and soundness ask; the others follow from them.
+-- handler." Four tests tell the states apart as far as the steps and soundness ask; the others follow from them.
 use mathlib.Core.Bool.{Bool, true, false, _&&_, _||_, not}
 use Rattle.parts.specs.declared.kinds.State.{State}
 use Rattle.parts.specs.declared.kinds.State.the-variants.{Idle, Waiting, Holding, WaitingSecond, HoldingBoth, Away}
