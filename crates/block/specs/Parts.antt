@@ -1,4 +1,4 @@
--- Soundness as a record of named parts: the same clauses, each at every core or unit.
+-- Detail: soundness as a record of named parts, as the proofs take it apart: the same clauses, each at every core or unit.
 use Prim.Native.Nat.{ℕ, _<_}
 use mathlib.Core.Bool.{true}
 use mathlib.Core.Path.{_≡_}

@@ -75,8 +75,7 @@ refusal t a = record { table = t; answer = a; ticket = ticket 0; grants = None }
 
 -- an allowed step does its work, a refused one hands back the table
 abbrev pub answered : Table → Verdict → Stepped → Stepped
-answered t Allowed done = done
-answered t (Refused a) done = refusal t a
+answered t v done = elim v [ Allowed ↦ done | Refused a ↦ refusal t a ]
 
 -- the step on a table known to be sound
 unfoldable pub onSound : Table → Step → Stepped

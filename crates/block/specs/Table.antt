@@ -27,7 +27,7 @@ abbrev pub withUnits : Table → List LockUnit → Table
 withUnits t us = record { units = us; cores = t .cores; counts = t .counts; counter = t .counter }
 
 abbrev pub withUnit : Table → ℕ → LockUnit → Table
-withUnit t u x = withUnits t (set (t .units) u x)
+withUnit t u x = record { units = set (t .units) u x; cores = t .cores; counts = t .counts; counter = t .counter }
 
 abbrev pub withRegister : Table → ℕ → ℕ → Register → Table
 withRegister t u k r = withUnit t u (registered (unitOf t u) k r)

@@ -13,13 +13,7 @@ use Rattle.block.specs.declared.table.Table.{Table}
 use Rattle.building.specs.declared.building.Built.{Built}
 
 abbrev pub fresh : Counts → Ticket → Table
-fresh c n =
-    record {
-      units = replicate units emptyUnit;
-      cores = replicate cores idle;
-      counts = c;
-      counter = n;
-    }
+fresh c n = record { units = replicate units emptyUnit; cores = replicate cores idle; counts = c; counter = n }
 
 abbrev pub build : Counts → Ticket → Built
 build c n =

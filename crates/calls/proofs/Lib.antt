@@ -1,11 +1,5 @@
-pub mod Fuel
+pub mod Within
 pub mod Script
-pub mod Pasting
 pub mod Asked
-pub mod Along
-pub mod GoesOn
-pub mod Moved
+pub mod Placed
 pub mod Columns
-pub mod Kept
-pub mod Chains
-pub mod Pieces

@@ -1,20 +1,19 @@
--- One call of the translation. "Header order: 22, 20, 23. Step line order: finished, 24, 22, 21, 16, 23. Refusals 16 and 20 to 24 stop
--- the run at the start of that line: complete output lines stand, all further output bytes and the table are unchanged. Refusals 10
--- to 15 are expected answers; the run goes on."
-use Prim.Native.Nat.{ℕ, zero, suc, _+_, _-_}
-use mathlib.Core.Bool.{true, cond}
-use mathlib.Core.List.{List}
-use mathlib.Core.Logic.{_⊎_, inl, inr, ⊎-elim}
-use lib.ListN.{length}
+-- One call of the translation, which is a walk. "Header order: 22, 20, 23. Step line order: finished, 24, 22, 21, 16, 23. Refusals 16 and 20
+-- to 24 stop the run at the start of that line: complete output lines stand, all further output bytes and the table are unchanged. Refusals
+-- 10 to 15 are expected answers; the run goes on."
+use Prim.Native.Nat.{ℕ, _+_}
+use mathlib.Core.Bool.{Bool, true, cond}
+use mathlib.Core.List.{List, []}
+use mathlib.Core.Logic.{_⊎_, inl, inr}
+use Rattle.ticket.specs.declared.kinds.Ticket.{Ticket}
 use Rattle.building.specs.Build.{build}
 use Rattle.block.specs.Sound.{sound}
 use Rattle.block.specs.Steps.{step}
 use Rattle.parts.specs.declared.answer.Step.{Step}
+use Rattle.parts.specs.declared.kinds.Counts.{Counts}
 use Rattle.block.specs.declared.table.Table.{Table}
 use Rattle.lines.specs.Bytes.{letterE}
 use Rattle.headers.specs.Header.{readHeader}
-use Rattle.digits.specs.Text.{pasted}
-use Rattle.digits.specs.Room.{fits}
 use Rattle.expected.specs.Expected.{expectedBytes}
 use Rattle.writing.specs.Writing.{headerBytes}
 use Rattle.headers.specs.declared.reading.HeaderLine.{HeaderLine}
@@ -23,67 +22,63 @@ use Rattle.stops.specs.declared.todo.Todo.{Todo}
 use Rattle.stops.specs.declared.todo.Todo.the-variants.{Work, Stop as Halt}
 use Rattle.stops.specs.declared.run.Run.{Run}
 use Rattle.stops.specs.declared.run.Stop.{Stop}
-use Rattle.stops.specs.declared.run.Stop.the-variants.{Finished, BadHeader, Unfinished, NoRoom}
+use Rattle.stops.specs.declared.run.Stop.the-variants.{BadHeader, Unfinished, NoRoom}
 use Rattle.stops.specs.declared.run.Stopped.{Stopped}
 use Rattle.stops.specs.Due.{due}
+use Rattle.walks.specs.Walk.{Reply, Turn, Desk, Ended, walked}
+use Rattle.walks.specs.Pieces.{lent}
 
--- what a call works on: the run so far, and what the output holds
-pub record Desk : Type 0 where
-  pub run : Run
-  pub out : List ℕ
+-- what is known between lines: whether the header is read, the table, and how many steps are done
+pub record Known : Type 0 where
+  pub headed : Bool
+  pub table : Table
+  pub steps : ℕ
 
--- the run on a table, after a line
-abbrev pub runAt : ℕ → ℕ → Table → ℕ → Run
-runAt place wrote t steps = record { place = place; wrote = wrote; table = t; steps = steps; headed = true }
+-- after the header
+abbrev pub working : Table → ℕ → Known
+working t steps = record { headed = true; table = t; steps = steps }
 
-abbrev pub stoppedAt : ℕ → ℕ → Table → ℕ → Stop → Stopped
-stoppedAt place wrote t steps why = record { run = runAt place wrote t steps; why = why }
-
--- an output line is written if it fits whole, 23 otherwise; after it the run stands at `next` with the table t
-abbrev pub answered : Desk → List ℕ → ℕ → Table → ℕ → Desk ⊎ Stop
-answered d xs next t steps =
-    cond (fits (d .out) (d .run .wrote) xs)
-    (inl (record { run = runAt next (d .run .wrote + length xs) t steps; out = pasted (d .out) (d .run .wrote) xs }))
-    (inr NoRoom)
-
--- a step's line: its number, and what the step answers
-abbrev pub stepped : Desk → Step → ℕ → Desk ⊎ Stop
-stepped d x next =
-    let y = step (d .run .table) x in
-    answered d (expectedBytes (d .run .steps + 1) (y .answer) (y .ticket) (y .grants)) next (y .table) (d .run .steps + 1)
-
-abbrev pub worked : Desk → Todo → Desk ⊎ Stop
-worked d (Work x next) = stepped d x next
-worked d (Halt why) = inr why
+-- a step's line, of so many bytes: its number, and what the step answers
+abbrev pub stepReply : Known → Step → ℕ → Reply Known
+stepReply q x used =
+    let y = step (q .table) x in
+    let n = q .steps + 1 in
+    record { used = used; said = expectedBytes n (y .answer) (y .ticket) (y .grants); also = []; then = working (y .table) n }
 
 -- the header's line, and the fresh table
-abbrev pub opening : Desk → HeaderLine → Desk ⊎ Stop
-opening d (Header c n next) = answered d (headerBytes letterE c n) next (build c n .table) (d .run .steps)
-opening d NoHeader = inr BadHeader
-opening d CutHeader = inr Unfinished
+abbrev pub headerReply : Known → Counts → Ticket → ℕ → Reply Known
+headerReply q c n used = record { used = used; said = headerBytes letterE c n; also = []; then = working (build c n .table) (q .steps) }
 
--- the next line: the desk after it, or why the run stops there
-abbrev pub turn : Desk → List ℕ → Desk ⊎ Stop
-turn d s =
-    cond (d .run .headed) (worked d (due s (d .run .place) (d .run .steps) (sound (d .run .table))))
-    (opening d (readHeader s (d .run .place)))
+-- what a line asks for, or why the run stops there whatever the room
+abbrev pub stepAsked : Known → Todo → Reply Known ⊎ Stop
+stepAsked q w = elim w [ Work x used ↦ inl (stepReply q x used) | Halt why ↦ inr why ]
 
--- what a call leaves
-pub record Ended : Type 0 where
-  pub stopped : Stopped
-  pub out : List ℕ
+abbrev pub headerAsked : Known → HeaderLine → Reply Known ⊎ Stop
+headerAsked q l = elim l [ Header c n used ↦ inl (headerReply q c n used) | NoHeader ↦ inr BadHeader | CutHeader ↦ inr Unfinished ]
 
-abbrev pub halted : Desk → Stop → Ended
-halted d why = record { stopped = record { run = d .run; why = why }; out = d .out }
+-- the turn: the first line of the bytes that are left; 23 where its answer does not fit
+abbrev pub asked : Known → List ℕ → Reply Known ⊎ Stop
+asked q s = cond (q .headed) (stepAsked q (due s 0 (q .steps) (sound (q .table)))) (headerAsked q (readHeader s 0))
 
--- lines until one stops the run, at most f of them
-unfoldable pub lines : ℕ → Desk → List ℕ → Ended
-lines zero d s = halted d Finished
-lines (suc f) d s = ⊎-elim (λ (next : Desk). lines f next s) (halted d) (turn d s)
+abbrev pub translation : Turn Known Stop
+translation = record { ask = asked; full = NoRoom }
 
--- the call: a line has at least one byte, so there are no more than bytes left
-abbrev pub translated : Desk → List ℕ → Ended
-translated d s = lines (suc (length s - d .run .place)) d s
+-- what a run knows; its desk with an output, and the run of a desk
+abbrev pub known : Run → Known
+known r = record { headed = r .headed; table = r .table; steps = r .steps }
 
-abbrev pub call : Run → List ℕ → List ℕ → Ended
-call r s out = translated (record { run = r; out = out }) s
+abbrev pub deskOf : Run → List ℕ → Desk Known
+deskOf r out = record { state = known r; place = r .place; first = record { bytes = out; wrote = r .wrote }; second = lent [] }
+
+abbrev pub runOf : Desk Known → Run
+runOf d = record { place = d .place; wrote = d .first .wrote; table = d .state .table; steps = d .state .steps; headed = d .state .headed }
+
+-- the call; what it hands back, and what it leaves in the output
+abbrev pub call : Run → List ℕ → List ℕ → Ended Known Stop
+call r s out = walked translation (deskOf r out) s
+
+abbrev pub stopped : Ended Known Stop → Stopped
+stopped e = record { run = runOf (e .desk); why = e .why }
+
+abbrev pub output : Ended Known Stop → List ℕ
+output e = e .desk .first .bytes

@@ -1,4 +1,4 @@
 pub mod Call
-pub mod Pieces
 pub mod Columns
 pub mod Claims
+pub mod Placed

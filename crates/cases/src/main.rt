@@ -39,6 +39,7 @@ mod writers;
 use bytes::half;
 use image::WORDS_MOST;
 use libc::STDIN_FILENO;
+use pieces::keep;
 use text::eased;
 use text::flush;
 use text::put;
@@ -138,21 +139,6 @@ fn read_on(at: usize, have: usize, wrote: usize, input: &mut [u8], out: &[u8]) -
         return ended();
     }
     going(0, now, 0)
-}
-
-// The bytes from a place on, of those that the piece has, move to its front. Answers how many.
-fn keep(input: &mut [u8], place: usize, have: usize) -> usize {
-    if input.len() < have {
-        return 0;
-    }
-    let mut rest = 0;
-    let mut i = place;
-    while i < have {
-        input[rest] = input[i];
-        rest += 1;
-        i += 1;
-    }
-    rest
 }
 
 // One read into the piece, after the bytes that were kept. Answers how many bytes there are then.

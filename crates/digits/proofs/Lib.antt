@@ -1,4 +1,5 @@
 pub mod Parts
 pub mod Pasting
 pub mod Lengths
+pub mod Numbers
 pub mod Determined

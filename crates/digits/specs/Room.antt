@@ -18,7 +18,10 @@ wrote out at xs = cond (fits out at xs) (Next (at + length xs)) NoRoom
 abbrev pub left : List ℕ → ℕ → List ℕ → List ℕ
 left out at xs = cond (fits out at xs) (pasted out at xs) out
 
+-- Document 01's numbers: of an answer; and which is due, 20 before 23
+
 abbrev pub writtenNumber : Written → ℕ
-writtenNumber (Next at) = 0
-writtenNumber OutOfRange = 20
-writtenNumber NoRoom = 23
+writtenNumber w = elim w [ Next at ↦ 0 | OutOfRange ↦ 20 | NoRoom ↦ 23 ]
+
+abbrev pub writeNumber : Bool → List ℕ → ℕ → List ℕ → ℕ
+writeNumber ranged out at xs = cond ranged (cond (fits out at xs) 0 23) 20

@@ -46,12 +46,8 @@ release m c = makes idle GiveUp Done (c .own) m
 
 -- P: "flag set: now holds it, answer 1"
 abbrev pub served : State → State
-served Idle = Idle
-served Waiting = Holding
-served Holding = Holding
-served WaitingSecond = HoldingBoth
-served HoldingBoth = HoldingBoth
-served Away = Away
+served z =
+    elim z [ Idle ↦ Idle | Waiting ↦ Holding | Holding ↦ Holding | WaitingSecond ↦ HoldingBoth | HoldingBoth ↦ HoldingBoth | Away ↦ Away ]
 
 abbrev pub hold : Ticket → Core → Effect
 hold m c = makes (core (c .own) (c .carried) (c .first) (c .second) (served (c .state))) Stay Granted (c .carried) m
@@ -59,8 +55,7 @@ hold m c = makes (core (c .own) (c .carried) (c .first) (c .second) (served (c .
 -- "Inheriting: take the oldest ticket among valid registers with flag clear at the first unit. If it is older than the carried
 -- ticket, it becomes the carried ticket and goes into the second unit's register. Otherwise nothing changes."
 abbrev pub heir : Ticket → Best → Ticket
-heir n Nobody = n
-heir n (Won j t) = cond (older (t .0) (n .0)) t n
+heir n best = elim best [ Nobody ↦ n | Won j t ↦ cond (older (t .0) (n .0)) t n ]
 
 abbrev pub inherit : Ticket → Core → Ticket → Effect
 inherit m c n = makes (core (c .own) n (c .first) (c .second) (c .state)) (Carry n) NotYet n m

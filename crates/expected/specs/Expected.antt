@@ -21,9 +21,7 @@ grantBytes g = tabbed (g .unit .0) ++ tabbed (g .core .0)
 
 -- how many grants, and each
 abbrev pub grantsBytes : Grants → List ℕ
-grantsBytes None = tabbed 0
-grantsBytes (One g) = tabbed 1 ++ grantBytes g
-grantsBytes (Two g h) = tabbed 2 ++ (grantBytes g ++ grantBytes h)
+grantsBytes gs = elim gs [ None ↦ tabbed 0 | One g ↦ tabbed 1 ++ grantBytes g | Two g h ↦ tabbed 2 ++ (grantBytes g ++ grantBytes h) ]
 
 abbrev pub expectedBytes : ℕ → Answer → Ticket → Grants → List ℕ
 expectedBytes i a n g = decimal i ++ (tabbed (numberOf a) ++ (tabbed (n .0) ++ (grantsBytes g ++ (end ∷ []))))

@@ -14,12 +14,13 @@ use parts::number;
 use ticket::Grant;
 use ticket::Ticket;
 ghost use mathlib.Core.Path.{_≡_};
+ghost use mathlib.Core.Bool.{true};
 ghost use Prim.Native.Nat.{_+_, _≤_};
 ghost use lib.Dec.{leb, ltb};
 ghost use lib.ListN.{length};
 ghost use Rattle.parts.specs.Answer.{numberOf};
 ghost use Rattle.digits.specs.Text.{tabbed, Puts};
-ghost use Rattle.digits.specs.Room.{wrote, left};
+ghost use Rattle.digits.specs.Room.{wrote, left, writtenNumber, writeNumber};
 ghost use Rattle.expected.specs.Expected.{grantBytes, grantsBytes, expectedBytes};
 
 // No expected line is longer, whatever its numbers: ten digits, seven times a tab and ten digits, and
@@ -162,7 +163,7 @@ pub fn write_expected(
     ticket: Ticket,
     grants: Grants,
 ) -> Written
-    ensures { λ r. ⌜ (r ≡ wrote (now (out .entry)) at (expectedBytes step answer ticket grants)) × (now (out .exit) ≡ left (now (out .entry)) at (expectedBytes step answer ticket grants)) ⌝ }
+    ensures { λ r. ⌜ (r ≡ wrote (now (out .entry)) at (expectedBytes step answer ticket grants)) × (now (out .exit) ≡ left (now (out .entry)) at (expectedBytes step answer ticket grants)) × (writtenNumber r ≡ writeNumber true (now (out .entry)) at (expectedBytes step answer ticket grants)) ⌝ }
 {
     if expected_fits(out.len(), at, step, answer, ticket, grants) {
         Written::Next(put_expected(out, at, step, answer, ticket, grants))

@@ -27,7 +27,7 @@ use Rattle.laws.proofs.Granting.{settled-rising}
 use Rattle.laws.proofs.Keeping.{Good}
 use Rattle.fairness.specs.Run.{Place, interrupts, onward}
 use Rattle.fairness.specs.Stretch.{grants, grantsOf, leaves, stretch, isEarlier, earlier, among, passed, interruptions}
-use Rattle.fairness.specs.Fair.{Bound}
+use Rattle.fairness.specs.Claims.{Bound}
 use Rattle.fairness.proofs.Counting.{count-le, count-drop, count-rise, at-gives, grants-some, grants-most}
 use Rattle.fairness.proofs.Settled.{settled-keeps, settled-due}
 use Rattle.fairness.proofs.Effects.{Accepted, Refusal, stepped, stepped-core, judged, flag-kept}

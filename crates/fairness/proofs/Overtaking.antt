@@ -30,7 +30,7 @@ use Rattle.laws.proofs.Kept.{WaitsAt, in-line-waits}
 use Rattle.laws.proofs.Oldest.{Fitting, oldest-won}
 use Rattle.fairness.specs.Run.{Place, onward, afterAll}
 use Rattle.fairness.specs.Stretch.{grants, gives, leaves}
-use Rattle.fairness.specs.Fair.{NoOvertaking}
+use Rattle.fairness.specs.Claims.{NoOvertaking}
 use Rattle.fairness.proofs.Counting.{gives-at}
 use Rattle.fairness.proofs.Effects.{Accepted, Refusal, stepped-core, judged}
 use Rattle.fairness.proofs.Invariant.{Live, live-small, numbered, Numbered, numbered-onward, fitting, order}

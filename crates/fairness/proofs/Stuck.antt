@@ -29,7 +29,7 @@ use Rattle.block.proofs.Stepping.{poll-cases}
 use Rattle.laws.proofs.Agreeing.{AtFirst, AtSecond, shows, flag-at}
 use Rattle.laws.proofs.Keeping.{Good}
 use Rattle.laws.proofs.Kept.{names-two, live-within}
-use Rattle.fairness.specs.Fair.{NeverStuck}
+use Rattle.fairness.specs.Claims.{NeverStuck}
 use Rattle.fairness.proofs.Effects.{accepted}
 use Rattle.fairness.proofs.Invariant.{Live, live-small, numbered}
 

@@ -1,3 +1,4 @@
 pub mod Run
 pub mod Stretch
-pub mod Fair
+pub mod Claims
+pub mod Order

@@ -24,21 +24,11 @@ done t s = eqb (numberOf (step t s .answer)) 0
 
 -- the step is an accepted request of core j
 abbrev pub requests : Table → Step → ℕ → Bool
-requests t (R k u) j = eqb (k .0) j && done t (R k u)
-requests t (N k u) j = false
-requests t (P k) j = false
-requests t (I k) j = false
-requests t (C k) j = false
-requests t (L k) j = false
+requests t s j = elim s [ R k u ↦ eqb (k .0) j && done t (R k u) | N k u ↦ false | P k ↦ false | I k ↦ false | C k ↦ false | L k ↦ false ]
 
 -- the step is an accepted interrupt of core j
 abbrev pub interrupts : Table → Step → ℕ → Bool
-interrupts t (R k u) j = false
-interrupts t (N k u) j = false
-interrupts t (P k) j = false
-interrupts t (I k) j = eqb (k .0) j && done t (I k)
-interrupts t (C k) j = false
-interrupts t (L k) j = false
+interrupts t s j = elim s [ R k u ↦ false | N k u ↦ false | P k ↦ false | I k ↦ eqb (k .0) j && done t (I k) | C k ↦ false | L k ↦ false ]
 
 -- where a run stands: the table, how many requests were accepted, and for each core the issue number of its last accepted request,
 -- which is that of its ticket while it is live

@@ -32,21 +32,13 @@ grantsOf u (g ∷ more) = one (eqb (g .unit .0) u) + grantsOf u more
 
 -- R enters the unit that it names, C the core's first unit
 abbrev pub entersAt : Table → Step → ℕ → Bool
-entersAt t (R k v) u = eqb (v .0) u
-entersAt t (N k v) u = false
-entersAt t (P k) u = false
-entersAt t (I k) u = false
-entersAt t (C k) u = eqb (coreOf t (k .0) .first .0) u
-entersAt t (L k) u = false
+entersAt t s u =
+    elim s [ R k v ↦ eqb (v .0) u | N k v ↦ false | P k ↦ false | I k ↦ false | C k ↦ eqb (coreOf t (k .0) .first .0) u | L k ↦ false ]
 
 -- core k enters unit u, which is first-class, and is not granted it at once
 abbrev pub enters : Place → Step → ℕ → ℕ → Bool
 enters p s k u =
-    done (p .table) s &&
-    eqb (whose s .0) k &&
-    entersAt (p .table) s u &&
-    ltb u (p .table .counts .first) &&
-    not (gives u k (grants p s))
+    done (p .table) s && eqb (whose s .0) k && entersAt (p .table) s u && ltb u (p .table .counts .first) && not (gives u k (grants p s))
 
 -- core k is granted u, or interrupted
 abbrev pub leaves : ℕ → ℕ → Place → Step → Bool
@@ -78,5 +70,4 @@ passed u p steps = over onward (λ q. 0) (λ q s later. grantsOf u (grants q s) 
 -- "the interrupts accepted meanwhile from the cores that own them": each by the number that the core's ticket has then
 abbrev pub interruptions : Place → ℕ → Place → List Step → ℕ
 interruptions e k p steps =
-    over onward (λ q. 0)
-    (λ q s later. one (interrupts (q .table) s (whose s .0) && among e k (q .issue (whose s .0))) + later) p steps
+    over onward (λ q. 0) (λ q s later. one (interrupts (q .table) s (whose s .0) && among e k (q .issue (whose s .0))) + later) p steps

@@ -1,7 +1,7 @@
 -- The header at a place: "before it, nothing left is 22. A place past the end of the script counts as its end. Header order: 22, 20." Its
 -- line ends as any line does.
 use Prim.Native.Nat.{ℕ, _+_, _-_}
-use mathlib.Core.Bool.{cond, _&&_}
+use mathlib.Core.Bool.{Bool, false, cond, _&&_}
 use mathlib.Core.List.{List}
 use lib.Dec.{eqb, leb}
 use lib.ListN.{length, getD, take, drop}
@@ -13,7 +13,7 @@ use Rattle.numbers.specs.Number.{field}
 use Rattle.numbers.specs.declared.number.Field.{Field}
 use Rattle.numbers.specs.declared.number.Field.the-variants.{Bad, Last, Then}
 use Rattle.lines.specs.Bytes.{letterT}
-use Rattle.lines.specs.Reading.{lineEnd}
+use Rattle.lines.specs.Reading.{lineEnd, endNumber}
 use Rattle.lines.specs.declared.reading.Ending.{Ending}
 use Rattle.lines.specs.declared.reading.Ending.the-variants.{At, Long, Short}
 use Rattle.headers.specs.declared.reading.ParsedHeader.{ParsedHeader}
@@ -21,49 +21,40 @@ use Rattle.headers.specs.declared.reading.ParsedHeader.the-variants.{Goo
 use Rattle.headers.specs.declared.reading.HeaderLine.{HeaderLine}
 use Rattle.headers.specs.declared.reading.HeaderLine.the-variants.{Header, BadHeader, Unfinished as Unended}
 
-abbrev pub counts : ℕ → ℕ → ℕ → Counts
-counts a b c = record { cores = a; first = b; second = c }
-
 abbrev pub withCounter : ℕ → ℕ → ℕ → Field → ParsedHeader
-withCounter a b c Bad = NoHeader
-withCounter a b c (Last n) = GoodHeader (counts a b c) (ticket n)
-withCounter a b c (Then n i) = NoHeader
+withCounter a b c f = elim f [ Bad ↦ NoHeader | Last n ↦ GoodHeader (record { cores = a; first = b; second = c }) (ticket n) | Then n i ↦ NoHeader ]
 
 abbrev pub withSecond : List ℕ → ℕ → ℕ → Field → ParsedHeader
-withSecond s a b Bad = NoHeader
-withSecond s a b (Last c) = NoHeader
-withSecond s a b (Then c i) = withCounter a b c (field s i)
+withSecond s a b f = elim f [ Bad ↦ NoHeader | Last c ↦ NoHeader | Then c i ↦ withCounter a b c (field s i) ]
 
 abbrev pub withFirst : List ℕ → ℕ → Field → ParsedHeader
-withFirst s a Bad = NoHeader
-withFirst s a (Last b) = NoHeader
-withFirst s a (Then b i) = withSecond s a b (field s i)
+withFirst s a f = elim f [ Bad ↦ NoHeader | Last b ↦ NoHeader | Then b i ↦ withSecond s a b (field s i) ]
 
 abbrev pub withCores : List ℕ → Field → ParsedHeader
-withCores s Bad = NoHeader
-withCores s (Last a) = NoHeader
-withCores s (Then a i) = withFirst s a (field s i)
+withCores s f = elim f [ Bad ↦ NoHeader | Last a ↦ NoHeader | Then a i ↦ withFirst s a (field s i) ]
 
 abbrev pub parseHeader : List ℕ → ParsedHeader
 parseHeader s = cond (eqb (getD s 0 0) letterT && eqb (getD s 1 0) tab) (withCores s (field s 2)) NoHeader
 
 -- 20, or the header with the place after its line
 abbrev pub headerLine : ParsedHeader → ℕ → HeaderLine
-headerLine (GoodHeader c n) next = cond (inRange c) (Header c n next) BadHeader
-headerLine NoHeader next = BadHeader
+headerLine p next = elim p [ GoodHeader c n ↦ cond (inRange c) (Header c n next) BadHeader | NoHeader ↦ BadHeader ]
 
 abbrev pub headerTo : List ℕ → ℕ → Ending → HeaderLine
-headerTo s at (At e) = headerLine (parseHeader (take (e - at) (drop at s))) (e + 1)
-headerTo s at Long = BadHeader
-headerTo s at Short = Unended
+headerTo s at found = elim found [ At e ↦ headerLine (parseHeader (take (e - at) (drop at s))) (e + 1) | Long ↦ BadHeader | Short ↦ Unended ]
 
 -- the header at a place
 abbrev pub readHeader : List ℕ → ℕ → HeaderLine
 readHeader s at = cond (leb (length s) at) Unended (headerTo s at (lineEnd s at))
 
--- Document 01's numbers
+-- Document 01's numbers: of an answer; and which is due
 
 abbrev pub headerLineNumber : HeaderLine → ℕ
-headerLineNumber (Header c n next) = 0
-headerLineNumber BadHeader = 20
-headerLineNumber Unended = 22
+headerLineNumber l = elim l [ Header c n next ↦ 0 | BadHeader ↦ 20 | Unended ↦ 22 ]
+
+-- the bytes up to the end e are a good header, its counts in range
+abbrev pub isHeader : List ℕ → ℕ → ℕ → Bool
+isHeader s at e = elim (parseHeader (take (e - at) (drop at s))) [ GoodHeader c n ↦ inRange c | NoHeader ↦ false ]
+
+abbrev pub headerNumber : List ℕ → ℕ → ℕ
+headerNumber s at = cond (leb (length s) at) 22 (endNumber 20 (isHeader s at) (lineEnd s at))

@@ -9,7 +9,7 @@ use ticket::Ticket;
 ghost use mathlib.Core.Path.{_≡_};
 ghost use Prim.Native.Nat.{_≤_, _<_};
 ghost use lib.ListN.{length};
-ghost use Rattle.headers.specs.Header.{withCounter, withSecond, withFirst, withCores, parseHeader, headerTo, readHeader};
+ghost use Rattle.headers.specs.Header.{withCounter, withSecond, withFirst, withCores, parseHeader, headerTo, readHeader, headerLineNumber, headerNumber};
 
 // The bytes of a line as a header.
 pub enum ParsedHeader {
@@ -109,7 +109,7 @@ fn header_at(s: &[u8], at: usize, e: usize) -> HeaderLine
 
 // The header at a place.
 pub fn header_line_at(s: &[u8], at: usize) -> HeaderLine
-    ensures { λ r. ⌜ r ≡ readHeader (now (s .entry)) at ⌝ }
+    ensures { λ r. ⌜ (r ≡ readHeader (now (s .entry)) at) × (headerLineNumber r ≡ headerNumber (now (s .entry)) at) ⌝ }
 {
     if s.len() <= at {
         return HeaderLine::Unfinished;

@@ -7,7 +7,7 @@ use Rattle.images.proofs.image.read_image.Reads as read-image
 use Rattle.images.proofs.image.write_image.Reads as write-image
 
 pub read-image-determined : Determines read-image.Post
-read-image-determined κs a x y s t p q = p ∙ sym q
+read-image-determined κs a x y s t p q = p .0 ∙ sym (q .0)
 
 pub write-image-determined : Determines write-image.Post
 write-image-determined κs a x y s t p q = p .0 ∙ sym (q .0)

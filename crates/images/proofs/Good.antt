@@ -13,14 +13,14 @@ use Rattle.parts.specs.declared.kinds.Counts.{Counts}
 use Rattle.parts.specs.declared.kinds.LockUnit.{LockUnit}
 use Rattle.parts.proofs.Bools.{and-left, and-right}
 use Rattle.parts.proofs.Folds.{every-at}
-use Rattle.words.specs.Word.{packable, unpack, isGood}
+use Rattle.words.specs.Word.{packable, isGood}
 use Rattle.images.specs.Image.{wordCount, registerAt, goodWord, goodImage, writable}
 
 module _ (c : Counts) (ws : List ℕ) (good : goodImage c ws ≡ true) where
   pub word-total : length ws ≡ wordCount c
   word-total = eqb-true (length ws) (wordCount c) (and-left (eqb (length ws) (wordCount c)) (every (goodWord ws) (wordCount c)) good)
 
-  pub word-good : (i : ℕ) → i < wordCount c → isGood (unpack (getD ws i 0)) ≡ true
+  pub word-good : (i : ℕ) → i < wordCount c → isGood (getD ws i 0) ≡ true
   word-good =
       every-at (goodWord ws) (wordCount c) (and-right (eqb (length ws) (wordCount c)) (every (goodWord ws) (wordCount c)) good)
 

@@ -7,7 +7,7 @@ use Rattle.parts.specs.Range.{inRange}
 use Rattle.parts.specs.declared.kinds.Counts.{Counts}
 use Rattle.parts.specs.declared.kinds.LockUnit.{LockUnit}
 use Rattle.words.proofs.Numbers.{one-choice}
-use Rattle.images.specs.Image.{goodImage, readImage, writable, writeAnswer, imageNumber}
+use Rattle.images.specs.Image.{goodImage, readImage, writable, writeAnswer, imageNumber, dueNumber}
 use Rattle.images.specs.declared.image.Image.{Image}
 use Rattle.images.specs.declared.image.ImageAnswer.the-variants.{Done, OutOfRange, BadImage}
 
@@ -18,10 +18,10 @@ module _ {A B : Type 0} (f : A → B) where
   two-choices false b x y z = refl
 
 pub read-number :
-    (c : Counts) (ws : List ℕ) → imageNumber (readImage c ws .answer) ≡ cond (inRange c) (cond (goodImage c ws) 0 30) 20
+    (c : Counts) (ws : List ℕ) → imageNumber (readImage c ws .answer) ≡ dueNumber c (goodImage c ws)
 read-number c ws = two-choices (λ (x : Image). imageNumber (x .answer)) (inRange c) (goodImage c ws) _ _ _
 
 pub write-number :
     (c : Counts) (xs : List LockUnit) (room : ℕ) →
-    imageNumber (writeAnswer c xs room) ≡ cond (inRange c) (cond (writable c xs room) 0 30) 20
+    imageNumber (writeAnswer c xs room) ≡ dueNumber c (writable c xs room)
 write-number c xs room = two-choices imageNumber (inRange c) (writable c xs room) Done BadImage OutOfRange

@@ -16,10 +16,10 @@ use Rattle.parts.specs.declared.kinds.Register.{Register}
 use Rattle.parts.proofs.Bools.{and-both}
 use Rattle.parts.proofs.Folds.{at-every, every-cong}
 use Rattle.parts.proofs.Along.{upTo-cong}
-use Rattle.words.specs.Word.{packable, wordOf, registerOf, unpack, isGood}
+use Rattle.words.specs.Word.{packable, wordOf, registerOf, isGood}
 use Rattle.words.proofs.Good.{narrow, good-packable}
 use Rattle.words.proofs.Bits.{word-register, register-word}
-use Rattle.words.proofs.ReadsBack.{shows}
+use Rattle.words.proofs.ReadsBack.{shows-good}
 use Rattle.images.specs.Image.{wordCount, registerAt, goodWord, goodImage, unitsOf, readImage, writable, wordsInto, writeAnswer, writeLeft}
 use Rattle.images.specs.Claims.{ImageReadsBack, ImageIsWritten, PastUnread}
 use Rattle.images.specs.declared.image.Image.{Image}
@@ -46,8 +46,8 @@ module _ (c : Counts) (ranged : inRange c ≡ true) where
       written-good =
           and-both (eq-eqb (length (wordsInto c xs out)) (wordCount c) (all-written .long ∙ total))
           (at-every (goodWord (wordsInto c xs out)) (wordCount c)
-          (λ i h. ap (λ (w : ℕ). isGood (unpack w)) (all-written .at i h) ∙
-          ap isGood (shows (registerAt c xs i) (low i h) (register-packable c xs (length out) able i h))))
+          (λ i h. ap isGood (all-written .at i h) ∙
+          shows-good (registerAt c xs i) (low i h) (register-packable c xs (length out) able i h)))
 
       -- and its registers are those that were written
       pub written-registers : (i : ℕ) → i < wordCount c → registerAt c (unitsOf c (wordsInto c xs out)) i ≡ registerAt c xs i

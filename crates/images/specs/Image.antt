@@ -13,7 +13,7 @@ use Rattle.parts.specs.Range.{inRange}
 use Rattle.parts.specs.declared.kinds.Register.{Register}
 use Rattle.parts.specs.declared.kinds.LockUnit.{LockUnit}
 use Rattle.parts.specs.declared.kinds.Counts.{Counts}
-use Rattle.words.specs.Word.{packable, wordOf, registerOf, unpack, isGood}
+use Rattle.words.specs.Word.{packable, wordOf, registerOf, isGood}
 use Rattle.images.specs.declared.image.Image.{Image}
 use Rattle.images.specs.declared.image.ImageAnswer.{ImageAnswer}
 use Rattle.images.specs.declared.image.ImageAnswer.the-variants.{Done, OutOfRange, BadImage}
@@ -37,7 +37,7 @@ withRegisterAt c xs i r = set xs (i / c .cores) (registered (getD xs (i / c .cor
 
 -- word i is good
 abbrev pub goodWord : List ℕ → ℕ → Bool
-goodWord ws i = isGood (unpack (getD ws i 0))
+goodWord ws i = isGood (getD ws i 0)
 
 -- its register goes to its place
 abbrev pub placeWord : Counts → List ℕ → ℕ → List LockUnit → List LockUnit
@@ -70,7 +70,10 @@ writeAnswer c xs room = cond (inRange c) (cond (writable c xs room) Done BadImag
 abbrev pub writeLeft : Counts → List LockUnit → List ℕ → List ℕ
 writeLeft c xs out = cond (inRange c) (cond (writable c xs (length out)) (wordsInto c xs out) out) out
 
+-- Document 01's numbers: of an answer; and which is due, 20 before 30
+
 abbrev pub imageNumber : ImageAnswer → ℕ
-imageNumber Done = 0
-imageNumber OutOfRange = 20
-imageNumber BadImage = 30
+imageNumber a = elim a [ Done ↦ 0 | OutOfRange ↦ 20 | BadImage ↦ 30 ]
+
+abbrev pub dueNumber : Counts → Bool → ℕ
+dueNumber c good = cond (inRange c) (cond good 0 30) 20

@@ -18,8 +18,8 @@ ghost use Prim.Native.Nat.{_<_};
 ghost use lib.ListN.{length};
 ghost use Rattle.parts.specs.Fold.{every};
 ghost use Rattle.parts.specs.Range.{inRange};
-ghost use Rattle.words.specs.Word.{packable, wordOf, registerOf, unpack, isGood};
-ghost use Rattle.images.specs.Image.{wordCount, emptyUnits, registerAt, goodWord, goodImage, unitsOf, readImage, writable, wordsInto, writeAnswer, writeLeft};
+ghost use Rattle.words.specs.Word.{packable, wordOf, registerOf, isGood};
+ghost use Rattle.images.specs.Image.{wordCount, emptyUnits, registerAt, goodWord, goodImage, unitsOf, readImage, writable, wordsInto, writeAnswer, writeLeft, imageNumber, dueNumber};
 
 // 0: done. 20: counts out of range. 30: a bad word or register, or a number of words that is not units
 // times cores.
@@ -66,7 +66,7 @@ fn register_at(c: Counts, units: [LockUnit; UNITS], i: usize) -> Register
 
 // Whether a word is one that a register reads back as.
 fn is_good(w: u32) -> bool
-    ensures { λ r. ⌜ r ≡ isGood (unpack w) ⌝ }
+    ensures { λ r. ⌜ r ≡ isGood w ⌝ }
 {
     let x = unpack(w);
     match x {
@@ -77,7 +77,7 @@ fn is_good(w: u32) -> bool
 
 // The register of a good word.
 fn shown(w: u32) -> Register
-    requires { ⌜ isGood (unpack w) ≡ true ⌝ }
+    requires { ⌜ isGood w ≡ true ⌝ }
     ensures { λ r. ⌜ r ≡ registerOf w ⌝ }
 {
     let x = unpack(w);
@@ -127,7 +127,7 @@ fn units_of(c: Counts, words: &[u32]) -> [LockUnit; UNITS]
 
 // The registers of an image, for given counts.
 pub fn read_image(c: Counts, words: &[u32]) -> Image
-    ensures { λ r. ⌜ r ≡ readImage c (now (words .entry)) ⌝ }
+    ensures { λ r. ⌜ (r ≡ readImage c (now (words .entry))) × (imageNumber (r .answer) ≡ dueNumber c (goodImage c (now (words .entry)))) ⌝ }
 {
     if !in_range(c) {
         return Image {
@@ -211,7 +211,7 @@ fn write_words(c: Counts, units: [LockUnit; UNITS], out: &mut [u32])
 // Writes the image of the units within the counts. The room must be exactly its words; a refusal
 // changes none.
 pub fn write_image(c: Counts, units: [LockUnit; UNITS], out: &mut [u32]) -> ImageAnswer
-    ensures { λ r. ⌜ (r ≡ writeAnswer c units (length (now (out .entry)))) × (now (out .exit) ≡ writeLeft c units (now (out .entry))) ⌝ }
+    ensures { λ r. ⌜ (r ≡ writeAnswer c units (length (now (out .entry)))) × (now (out .exit) ≡ writeLeft c units (now (out .entry))) × (imageNumber r ≡ dueNumber c (writable c units (length (now (out .entry))))) ⌝ }
 {
     if !in_range(c) {
         return ImageAnswer::OutOfRange;

@@ -15,7 +15,7 @@ use Rattle.block.specs.Sound.{sound}
 use Rattle.block.specs.Steps.{verdict, effectOn, refusal, onSound, step}
 use Rattle.block.specs.declared.table.Table.{Table}
 use Rattle.block.specs.declared.stepped.Stepped.{Stepped}
-use Rattle.laws.specs.Claims.{KeepsSound, RefusedSame, GrantsWhole, GrantsRise, TwoClasses, GrantedWaits}
+use Rattle.laws.specs.Claims.{KeepsSound, RefusedSame, StepGrants}
 use Rattle.block.proofs.Stepping.{poll-cases}
 use Rattle.laws.proofs.Keeping.{step-sound, step-shaped}
 use Rattle.laws.proofs.Granting.{accepted, refused, grants-listed, grants-rising, two-classes, granted-waiting}
@@ -58,14 +58,12 @@ refused-same t s high = fit (sound t) refl
     fit true ok = judged ok (verdict t s) refl
     fit false not = itself t s Unsound (on-unsound t s not)
 
-pub grants-whole : GrantsWhole
-grants-whole t s shaped ok may = rw (on-sound t s ok) (grants-listed t shaped ok s may)
-
-pub grants-rise : GrantsRise
-grants-rise t s shaped ok = rw (on-sound t s ok) (grants-rising t shaped ok s)
-
-pub two-of-classes : TwoClasses
-two-of-classes t s g h shaped ok two = two-classes t shaped ok s g h (rw (on-sound t s ok) at two)
-
-pub granted-waits : GrantedWaits
-granted-waits t s g shaped ok m = rw (on-sound t s ok) (granted-waiting t shaped ok s g (rw (on-sound t s ok) at m))
+pub step-grants : StepGrants
+step-grants t s shaped ok =
+    let on = on-sound t s ok in
+    record {
+      whole = λ may. rw on (grants-listed t shaped ok s may);
+      rise = rw on (grants-rising t shaped ok s);
+      classes = λ g h two. two-classes t shaped ok s g h (rw on at two);
+      awaited = λ g m. rw on (granted-waiting t shaped ok s g (rw on at m));
+    }

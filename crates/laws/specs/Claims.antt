@@ -31,29 +31,18 @@ KeepsSound = (t : Table) (s : Step) → Shaped t → sound t ≡ true → (sound
 abbrev pub RefusedSame : Type 0
 RefusedSame = (t : Table) (s : Step) → 10 ≤ numberOf (step t s .answer) → step t s ≡ refusal t (step t s .answer)
 
--- "There are at most two grants": of those that settling gives none is lost
-abbrev pub GrantsWhole : Type 0
-GrantsWhole =
-    (t : Table) (s : Step) →
-    Shaped t →
-    sound t ≡ true →
-    verdict t s ≡ Allowed →
-    listed (step t s .grants) ≡ settle (moves t s) .grants
+-- the grants of a step of a sound table
+pub record GrantsOf (t : Table) (s : Step) : Type 0 where
+  -- "There are at most two grants": of those that settling gives none is lost
+  pub whole : verdict t s ≡ Allowed → listed (step t s .grants) ≡ settle (moves t s) .grants
+  -- "by rising unit"
+  pub rise : Rising (listed (step t s .grants))
+  -- "two are one first-class and one second-class unit"
+  pub classes : (g h : Grant) → step t s .grants ≡ Two g h → Classes t g h
+  -- "each grant goes to a core that stands there waiting"
+  pub awaited :
+      (g : Grant) → List·Memᴰ g (listed (step t s .grants)) →
+      let c = coreOf (step t s .table) (g .core .0) in (waits (c .state) ≡ true) × (awaited c ≡ g .unit .0)
 
--- "by rising unit"
-abbrev pub GrantsRise : Type 0
-GrantsRise = (t : Table) (s : Step) → Shaped t → sound t ≡ true → Rising (listed (step t s .grants))
-
--- "two are one first-class and one second-class unit"
-abbrev pub TwoClasses : Type 0
-TwoClasses = (t : Table) (s : Step) (g h : Grant) → Shaped t → sound t ≡ true → step t s .grants ≡ Two g h → Classes t g h
-
--- "each grant goes to a core that stands there waiting"
-abbrev pub GrantedWaits : Type 0
-GrantedWaits =
-    (t : Table) (s : Step) (g : Grant) →
-    Shaped t →
-    sound t ≡ true →
-    List·Memᴰ g (listed (step t s .grants)) →
-    let c = coreOf (step t s .table) (g .core .0) in
-    (waits (c .state) ≡ true) × (awaited c ≡ g .unit .0)
+abbrev pub StepGrants : Type 0
+StepGrants = (t : Table) (s : Step) → Shaped t → sound t ≡ true → GrantsOf t s

@@ -19,9 +19,7 @@ use Rattle.parts.specs.declared.answer.Grants.{Grants}
 use Rattle.parts.specs.declared.answer.Grants.the-variants.{None, One, Two}
 
 abbrev pub listed : Grants → List Grant
-listed None = []
-listed (One g) = g ∷ []
-listed (Two g h) = g ∷ h ∷ []
+listed gs = elim gs [ None ↦ [] | One g ↦ g ∷ [] | Two g h ↦ g ∷ h ∷ [] ]
 
 -- the units rise
 unfoldable pub Rising : List Grant → Type 0

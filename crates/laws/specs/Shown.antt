@@ -1,4 +1,4 @@
--- What the tester sees of a run of steps: for each its answer, its ticket, and unit and core of each grant.
+-- Shown: what the tester sees of a run of steps: for each its answer, its ticket, and unit and core of each grant.
 use Prim.Native.Nat.{ℕ}
 use mathlib.Core.List.{List, [], _∷_}
 use Rattle.parts.specs.Answer.{numberOf}

@@ -1,11 +1,11 @@
--- Each contract of this crate determines its answer: it is an equation with a definition.
+-- Each contract of this crate determines its answer: it has an equation with a definition.
 use mathlib.Core.Path.{sym, _∙_}
 use Rattle.ticket.specs.Determined.{Determines}
 use Rattle.lines.proofs.reading.step_line_at.Reads as step-line-at
 use Rattle.lines.proofs.reading.line_end.Reads as line-end
 
 pub step-line-at-determined : Determines step-line-at.Post
-step-line-at-determined κs a x y s t p q = p ∙ sym q
+step-line-at-determined κs a x y s t p q = p .0 ∙ sym (q .0)
 
 pub line-end-determined : Determines line-end.Post
 line-end-determined κs a x y s t p q = p ∙ sym q

@@ -2,14 +2,15 @@
 -- it aren't a step line; 22 if fewer than 14 bytes remain and none is a line end. After the header, nothing left means finished." "A
 -- place past the end of the script counts as its end."
 use Prim.Native.Nat.{ℕ, zero, suc, _+_, _-_}
-use mathlib.Core.Bool.{cond}
+use mathlib.Core.Bool.{Bool, true, false, cond}
 use mathlib.Core.List.{List, [], _∷_}
 use lib.Dec.{eqb, leb}
 use lib.ListN.{length, getD, take, drop}
 use Rattle.parts.specs.Parts.{coreNo, unitNo}
+use Rattle.parts.specs.declared.answer.Step.{Step}
 use Rattle.parts.specs.declared.answer.Step.the-variants.{R, N, P, I, C, L}
 use Rattle.numbers.specs.Bytes.{tab, end}
-use Rattle.lines.specs.Bytes.{lineMost, letterR, letterN, letterP, letterI, letterC, letterL}
+use Rattle.lines.specs.Bytes.{lineMost, letterOf}
 use Rattle.numbers.specs.Number.{field}
 use Rattle.numbers.specs.declared.number.Field.{Field}
 use Rattle.numbers.specs.declared.number.Field.the-variants.{Bad, Last, Then}
@@ -32,29 +33,23 @@ lineEnd s at = ending lineMost at (drop at s)
 
 -- Step lines
 
+-- a step, if the letter is its own
+abbrev pub ifIts : ℕ → Step → Parsed → Parsed
+ifIts letter x other = cond (eqb letter (letterOf x)) (Good x) other
+
 -- a letter with one number, and with two
 abbrev pub oneNumber : ℕ → ℕ → Parsed
-oneNumber letter k =
-    cond (eqb letter letterP) (Good (P (coreNo k)))
-    (cond (eqb letter letterI) (Good (I (coreNo k)))
-    (cond (eqb letter letterC) (Good (C (coreNo k)))
-    (cond (eqb letter letterL) (Good (L (coreNo k))) Not)))
+oneNumber letter k = let c = coreNo k in ifIts letter (P c) (ifIts letter (I c) (ifIts letter (C c) (ifIts letter (L c) Not)))
 
 abbrev pub twoNumbers : ℕ → ℕ → ℕ → Parsed
-twoNumbers letter k u =
-    cond (eqb letter letterR) (Good (R (coreNo k) (unitNo u)))
-    (cond (eqb letter letterN) (Good (N (coreNo k) (unitNo u))) Not)
+twoNumbers letter k u = let c = coreNo k in let v = unitNo u in ifIts letter (R c v) (ifIts letter (N c v) Not)
 
 -- what follows the core's number
 abbrev pub afterCore : ℕ → ℕ → Field → Parsed
-afterCore letter k Bad = Not
-afterCore letter k (Last u) = twoNumbers letter k u
-afterCore letter k (Then u i) = Not
+afterCore letter k f = elim f [ Bad ↦ Not | Last u ↦ twoNumbers letter k u | Then u i ↦ Not ]
 
 abbrev pub afterLetter : List ℕ → ℕ → Field → Parsed
-afterLetter s letter Bad = Not
-afterLetter s letter (Last k) = oneNumber letter k
-afterLetter s letter (Then k i) = afterCore letter k (field s i)
+afterLetter s letter f = elim f [ Bad ↦ Not | Last k ↦ oneNumber letter k | Then k i ↦ afterCore letter k (field s i) ]
 
 -- the bytes of a line, without its end: the letter, a tab, and its numbers parted by tabs
 abbrev pub parseStep : List ℕ → Parsed
@@ -62,22 +57,27 @@ parseStep s = cond (eqb (getD s 1 0) tab) (afterLetter s (getD s 0 0) (field s 2
 
 -- 21 or the step with the place after its line
 abbrev pub stepLine : Parsed → ℕ → StepLine
-stepLine (Good x) next = Line x next
-stepLine Not next = Malformed
+stepLine p next = elim p [ Good x ↦ Line x next | Not ↦ Malformed ]
 
 abbrev pub stepTo : List ℕ → ℕ → Ending → StepLine
-stepTo s at (At e) = stepLine (parseStep (take (e - at) (drop at s))) (e + 1)
-stepTo s at Long = Malformed
-stepTo s at Short = Unfinished
+stepTo s at found = elim found [ At e ↦ stepLine (parseStep (take (e - at) (drop at s))) (e + 1) | Long ↦ Malformed | Short ↦ Unfinished ]
 
 -- the step line at a place
 abbrev pub readStep : List ℕ → ℕ → StepLine
 readStep s at = cond (leb (length s) at) Finished (stepTo s at (lineEnd s at))
 
--- Document 01's numbers
+-- Document 01's numbers: of an answer; and which is due
 
 abbrev pub stepLineNumber : StepLine → ℕ
-stepLineNumber (Line x next) = 0
-stepLineNumber Finished = 0
-stepLineNumber Malformed = 21
-stepLineNumber Unfinished = 22
+stepLineNumber l = elim l [ Line x next ↦ 0 | Finished ↦ 0 | Malformed ↦ 21 | Unfinished ↦ 22 ]
+
+-- by a line's end: 22 where none is found yet, and bad where none is within the longest line, or the bytes up to it aren't good
+abbrev pub endNumber : ℕ → (ℕ → Bool) → Ending → ℕ
+endNumber bad good found = elim found [ At e ↦ cond (good e) 0 bad | Long ↦ bad | Short ↦ 22 ]
+
+-- the bytes up to the end e are a step line
+abbrev pub isStep : List ℕ → ℕ → ℕ → Bool
+isStep s at e = elim (parseStep (take (e - at) (drop at s))) [ Good x ↦ true | Not ↦ false ]
+
+abbrev pub stepNumber : List ℕ → ℕ → ℕ
+stepNumber s at = cond (leb (length s) at) 0 (endNumber 21 (isStep s at) (lineEnd s at))

@@ -8,7 +8,7 @@ ghost use mathlib.Core.Path.{_≡_};
 ghost use Prim.Native.Nat.{_≤_, _<_};
 ghost use lib.ListN.{length};
 ghost use Rattle.lines.specs.ShortLine.{digit, shortLine};
-ghost use Rattle.lines.specs.Reading.{lineEnd, oneNumber, twoNumbers, afterCore, afterLetter, parseStep, stepLine, stepTo, readStep};
+ghost use Rattle.lines.specs.Reading.{lineEnd, oneNumber, twoNumbers, afterCore, afterLetter, parseStep, stepLine, stepTo, readStep, stepLineNumber, stepNumber};
 
 // The longest script line, with its end.
 pub const LINE_MOST: usize = 14;
@@ -174,7 +174,7 @@ fn found(p: Parsed, next: usize) -> StepLine
 
 // The step line at a place.
 pub fn step_line_at(s: &[u8], at: usize) -> StepLine
-    ensures { λ r. ⌜ r ≡ readStep (now (s .entry)) at ⌝ }
+    ensures { λ r. ⌜ (r ≡ readStep (now (s .entry)) at) × (stepLineNumber r ≡ stepNumber (now (s .entry)) at) ⌝ }
 {
     if s.len() <= at {
         return StepLine::Finished;

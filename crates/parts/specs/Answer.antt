@@ -12,12 +12,7 @@ use Rattle.parts.specs.declared.answer.Grants.the-variants.{None, One, T
 
 -- the core that a step names
 abbrev pub whose : Step → CoreNo
-whose (R k u) = k
-whose (N k u) = k
-whose (P k) = k
-whose (I k) = k
-whose (C k) = k
-whose (L k) = k
+whose s = elim s [ R k u ↦ k | N k u ↦ k | P k ↦ k | I k ↦ k | C k ↦ k | L k ↦ k ]
 
 abbrev pub numberOf : Answer → ℕ
 numberOf Done = 0

@@ -15,8 +15,7 @@ abbrev pub some : (ℕ → Bool) → ℕ → Bool
 some p n = upTo (λ (k : ℕ) (b : Bool). b || p k) n false
 
 abbrev pub one : Bool → ℕ
-one true = 1
-one false = 0
+one b = elim b [ true ↦ 1 | false ↦ 0 ]
 
 -- of how many numbers below n p holds
 abbrev pub count : (ℕ → Bool) → ℕ → ℕ

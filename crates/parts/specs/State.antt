@@ -6,39 +6,19 @@ use Rattle.parts.specs.declared.kinds.State.the-variants.{Idle, Waiting,
 
 -- no ticket
 abbrev pub isIdle : State → Bool
-isIdle Idle = true
-isIdle Waiting = false
-isIdle Holding = false
-isIdle WaitingSecond = false
-isIdle HoldingBoth = false
-isIdle Away = false
+isIdle z = elim z [ Idle ↦ true | Waiting ↦ false | Holding ↦ false | WaitingSecond ↦ false | HoldingBoth ↦ false | Away ↦ false ]
 
 -- waiting, at either stage
 abbrev pub waits : State → Bool
-waits Idle = false
-waits Waiting = true
-waits Holding = false
-waits WaitingSecond = true
-waits HoldingBoth = false
-waits Away = false
+waits z = elim z [ Idle ↦ false | Waiting ↦ true | Holding ↦ false | WaitingSecond ↦ true | HoldingBoth ↦ false | Away ↦ false ]
 
 -- a second unit is awaited or held
 abbrev pub twoStage : State → Bool
-twoStage Idle = false
-twoStage Waiting = false
-twoStage Holding = false
-twoStage WaitingSecond = true
-twoStage HoldingBoth = true
-twoStage Away = false
+twoStage z = elim z [ Idle ↦ false | Waiting ↦ false | Holding ↦ false | WaitingSecond ↦ true | HoldingBoth ↦ true | Away ↦ false ]
 
 -- in a handler
 abbrev pub isAway : State → Bool
-isAway Idle = false
-isAway Waiting = false
-isAway Holding = false
-isAway WaitingSecond = false
-isAway HoldingBoth = false
-isAway Away = true
+isAway z = elim z [ Idle ↦ false | Waiting ↦ false | Holding ↦ false | WaitingSecond ↦ false | HoldingBoth ↦ false | Away ↦ true ]
 
 -- standing at the first unit, waiting or holding
 abbrev pub stands : State → Bool

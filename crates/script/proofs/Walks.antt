@@ -73,8 +73,8 @@ module _ {M : Type 1} (𝓤 : URA M) (H : Heap 𝓤) (A : Atoms 𝓤) (W : Given
       use1 W (‵ (ownAt (D κ .parts) (L κ) 0 (d .script)) ⊛ ‵ (rest (D κ .parts) (L κ) 0 (d .script, (d .place, tt)))) (own-out 𝓤 H A W (D κ .parts) (L κ) 0 (d .script, (d .place, tt))) $ split ! $
       move ! (1 ∷ []) $ drop ! $ frame ! $ done !)
 
--- A method that asks a function of the slice and the place, whose answer is of the type R and is f of the two.
-module _ (R : RattleType) (ρ : Ty) (f : List ℕ → ℕ → R .Denot) where
+-- A method that asks a function of the slice and the place, whose answer is of the type R, and P is promised of the three.
+module _ (R : RattleType) (ρ : Ty) (P : List ℕ → ℕ → R .Denot → Type 0) where
   abbrev pub asked : Ended
   asked = record {
     signature = record { lifetimes = 1; outlives = []; params = SliceRefOf (0 ∷ []) tt (plain (λ κs. u8)) (λ κs. tt) ∷ plain (λ κs. usize) ∷ []; result = plain (λ κs. R) };
@@ -82,13 +82,13 @@ module _ (R : RattleType) (ρ : Ty) (f : List ℕ → ℕ → R .Denot) where
   }
 
   abbrev pub asks : {M : Type 1} (𝓤 : URA M) → Clauses 𝓤 asked
-  asks 𝓤 κs a = record { ghost = Unit {0}; requires = λ g. emp 𝓤; ensures = λ g r e. fact 𝓤 (r ≡ f (now (a .0)) (a .1 .0)) }
+  asks 𝓤 κs a = record { ghost = Unit {0}; requires = λ g. emp 𝓤; ensures = λ g r e. fact 𝓤 (P (now (a .0)) (a .1 .0) r) }
 
   abbrev pub method : Ended
   method = record { signature = record { lifetimes = 1; outlives = []; params = plain B ∷ []; result = plain (λ κs. R) }; kept = (yes, tt) }
 
   abbrev pub answers : {M : Type 1} (𝓤 : URA M) → Clauses 𝓤 method
-  answers 𝓤 κs a = record { ghost = Unit {0}; requires = λ g. emp 𝓤; ensures = λ g r e. fact 𝓤 (r ≡ f (now (a .0 .script)) (a .0 .place)) }
+  answers 𝓤 κs a = record { ghost = Unit {0}; requires = λ g. emp 𝓤; ensures = λ g r e. fact 𝓤 (P (now (a .0 .script)) (a .0 .place) r) }
 
   abbrev pub asking : Name → Fn
   asking g = record {
@@ -112,8 +112,8 @@ module _ (R : RattleType) (ρ : Ty) (f : List ℕ → ℕ → R .Denot) where
     abbrev mach : Val
     mach = T′.lowered d
 
-    abbrev found : R .Denot
-    found = f (now (d .script)) (d .place)
+    abbrev Promised : R .Denot → Type 0
+    Promised = P (now (d .script)) (d .place)
 
     abbrev Post : Val → SProp 𝓤
     Post = walkOf 𝓤 H A method stayed (answers 𝓤) .post (((κ, tt), (q, tt), tt, (d, tt), (mach ∷ [], tt)), tt)
@@ -133,10 +133,10 @@ module _ (R : RattleType) (ρ : Ty) (f : List ℕ → ℕ → R .Denot) where
         move ! (3 ∷ 0 ∷ []) $ use2 W (raw (Asked 𝓤 H A .pre to)) (qed W ((‵ (flft κ q) ⊛ ‵ ftrue) ∷ ‵ (owns (ShrSlice (named 0) κ u8 ∷ usize ∷ []) (d .script, (d .place, tt)) passed) ∷ []) ∵ join ! $ frame ! $ done !) $
         frame ! $ keep ! (0 ∷ []) $ done !
 
-    pub said : (r : R .Denot) → ent 𝓤 (ensured 𝓤 H A asked (asks 𝓤) (κ, tt) (d .script, (d .place, tt)) tt r) (fact 𝓤 (r ≡ found))
-    said r = exE 𝓤 _ (λ ws. snd∗ 𝓤 (sem 𝓤 H A (lasts asked (κ, tt) (d .script, (d .place, tt)) ws)) (fact 𝓤 (r ≡ found)))
+    pub said : (r : R .Denot) → ent 𝓤 (ensured 𝓤 H A asked (asks 𝓤) (κ, tt) (d .script, (d .place, tt)) tt r) (fact 𝓤 (Promised r))
+    said r = exE 𝓤 _ (λ ws. snd∗ 𝓤 (sem 𝓤 H A (lasts asked (κ, tt) (d .script, (d .place, tt)) ws)) (fact 𝓤 (Promised r)))
 
-    exits : (r : R .Denot) (u : Val) → r ≡ found → ent 𝓤 (⋆ 𝓤 H A (‵ (R .own r (u ∷ [])) ∷ (‵ (flft κ q) ⊛ ‵ ftrue) ∷ ‵ (Own 𝓤 H A W κ d) ∷ [])) (Post u)
+    exits : (r : R .Denot) (u : Val) → Promised r → ent 𝓤 (⋆ 𝓤 H A (‵ (R .own r (u ∷ [])) ∷ (‵ (flft κ q) ⊛ ‵ ftrue) ∷ ‵ (Own 𝓤 H A W κ d) ∷ [])) (Post u)
     exits r u e =
         qed W (‵ (R .own r (u ∷ [])) ∷ (‵ (flft κ q) ⊛ ‵ ftrue) ∷ ‵ (Own 𝓤 H A W κ d) ∷ []) ∵
         suffices ! _ (ends-at 𝓤 H A method stayed (answers 𝓤) W (((κ, tt), (q, tt), tt, (d, tt), (mach ∷ [], tt)), tt) u r (tt, tt) (tt, tt)) $ says ! e $
@@ -152,7 +152,7 @@ module _ (R : RattleType) (ρ : Ty) (f : List ℕ → ℕ → R .Denot) where
           move ! (8 ∷ []) $ use1 W (raw (Asked 𝓤 H A .pre to) ⊛ ‵ (Own 𝓤 H A W κ d)) (goes (wt .1 .1 .0 .fits)) $ split ! $
           calls-at ! fm (Asked 𝓤 H A) known to (and-then ! (load ! (from ! (stop !)) (look ! 4 refl)) (and-then ! (load ! (from ! (stop !)) (look ! 2 refl)) (no-more !))) (λ u.
           use1 W (later (some (λ (r : R .Denot). ((‵ (flft κ q) ⊛ ‵ ftrue) ⊛ ‵ (R .own r (u ∷ []))) ⊛ raw (ensured 𝓤 H A asked (asks 𝓤) (κ, tt) (d .script, (d .place, tt)) tt r)))) (id⊢ 𝓤 _) $ await ! tt $ pick ! (λ r.
-          split ! $ move ! (1 ∷ []) $ use1 W (raw (fact 𝓤 (r ≡ found))) (said r) $ heard ! (r ≡ found) (λ e. split ! $ move ! (1 ∷ []) $
+          split ! $ move ! (1 ∷ []) $ use1 W (raw (fact 𝓤 (Promised r))) (said r) $ heard ! (Promised r) (λ e. split ! $ move ! (1 ∷ []) $
           -- [the answer; the token; what the reader owns; _3; …; _2; …; _1; …; room for _0; …]
           peeks ! R (Is R) (shows 𝓤 H A R) r (u ∷ []) (λ is. land ! (from ! (stop !)) (init ! 9 refl (typed r u is)) $
           returns ! (look ! 9 refl) $ forget ! 3 refl $ forget ! 5 refl $ forget ! 7 refl $ forget ! 9 refl $

@@ -19,10 +19,7 @@ bytesFrom s at = length s - at
 
 -- where a reader stands after what it found: past a step line, and otherwise where it stood
 abbrev pub placeAfter : StepLine → ℕ → ℕ
-placeAfter (Line x next) at = next
-placeAfter Finished at = at
-placeAfter Malformed at = at
-placeAfter Unfinished at = at
+placeAfter line at = elim line [ Line x next ↦ next | Finished ↦ at | Malformed ↦ at | Unfinished ↦ at ]
 
 -- the step line at the reader's place, and the reader moved on
 abbrev pub readOn : ScriptReader → ReadOn

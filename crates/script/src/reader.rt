@@ -7,8 +7,8 @@ use headers::header_line_at;
 use lines::StepLine;
 use lines::step_line_at;
 ghost use mathlib.Core.Path.{_≡_};
-ghost use Rattle.lines.specs.Reading.{readStep};
-ghost use Rattle.headers.specs.Header.{readHeader};
+ghost use Rattle.lines.specs.Reading.{readStep, stepLineNumber, stepNumber};
+ghost use Rattle.headers.specs.Header.{readHeader, headerLineNumber, headerNumber};
 ghost use Rattle.script.specs.Script.{opened, bytesFrom, placeAfter, readOn};
 
 // The lent script, and the place where the next line starts.
@@ -66,14 +66,14 @@ impl<'a> ScriptReader<'a> {
 
     // The header at the place.
     pub fn header(self) -> HeaderLine
-        ensures { λ r. ⌜ r ≡ readHeader (now (self .entry .script)) (self .entry .place) ⌝ }
+        ensures { λ r. ⌜ (r ≡ readHeader (now (self .entry .script)) (self .entry .place)) × (headerLineNumber r ≡ headerNumber (now (self .entry .script)) (self .entry .place)) ⌝ }
     {
         header_line_at(self.script, self.place)
     }
 
     // The step line at the place, and the reader moved on past it.
     pub fn next(self) -> ReadOn<'a>
-        ensures { λ r. ⌜ r ≡ readOn (self .entry) ⌝ }
+        ensures { λ r. ⌜ (r ≡ readOn (self .entry)) × (stepLineNumber (r .line) ≡ stepNumber (now (self .entry .script)) (self .entry .place)) ⌝ }
     {
         let script = self.script;
         let place = self.place;
@@ -91,14 +91,14 @@ impl<'a> ScriptReader<'a> {
 
 // The step line at a place.
 pub fn read_step(s: &[u8], at: usize) -> StepLine
-    ensures { λ r. ⌜ r ≡ readStep (now (s .entry)) at ⌝ }
+    ensures { λ r. ⌜ (r ≡ readStep (now (s .entry)) at) × (stepLineNumber r ≡ stepNumber (now (s .entry)) at) ⌝ }
 {
     ScriptReader::open(s, at).next().line
 }
 
 // The header at a place.
 pub fn read_header(s: &[u8], at: usize) -> HeaderLine
-    ensures { λ r. ⌜ r ≡ readHeader (now (s .entry)) at ⌝ }
+    ensures { λ r. ⌜ (r ≡ readHeader (now (s .entry)) at) × (headerLineNumber r ≡ headerNumber (now (s .entry)) at) ⌝ }
 {
     ScriptReader::open(s, at).header()
 }

@@ -14,12 +14,9 @@ use Rattle.parts.specs.declared.kinds.LockUnit.{LockUnit}
 use Rattle.settling.specs.declared.line.Best.{Best}
 use Rattle.settling.specs.declared.line.Best.the-variants.{Nobody, Won}
 
--- how many of the first n cores have their flag set; how many flags a unit has set
-abbrev pub flagsOf : ℕ → LockUnit → ℕ
-flagsOf n x = count (λ (k : ℕ). registerIn x k .flag) n
-
+-- how many flags a unit has set
 abbrev pub flags : LockUnit → ℕ
-flags x = flagsOf cores x
+flags x = count (λ (k : ℕ). registerIn x k .flag) cores
 
 -- a valid register with its flag clear
 abbrev pub inLine : Register → Bool
@@ -27,18 +24,14 @@ inLine r = r .valid && not (r .flag)
 
 -- core k with the register r against the best so far: the older one
 abbrev pub better : Register → CoreNo → Best → Best
-better r k Nobody = Won k (r .ticket)
-better r k (Won j t) = cond (older (r .ticket .0) (t .0)) (Won k (r .ticket)) (Won j t)
+better r k best = elim best [ Nobody ↦ Won k (r .ticket) | Won j t ↦ cond (older (r .ticket .0) (t .0)) (Won k (r .ticket)) (Won j t) ]
 
 abbrev pub consider : LockUnit → ℕ → Best → Best
 consider x k best = cond (inLine (registerIn x k)) (better (registerIn x k) (coreNo k) best) best
 
--- of the first n cores the one with the oldest register in line, and its ticket; and of all
-abbrev pub nextOf : ℕ → LockUnit → Best
-nextOf n x = upTo (consider x) n Nobody
-
+-- the core with the oldest register in line, and its ticket
 abbrev pub next : LockUnit → Best
-next x = nextOf cores x
+next x = upTo (consider x) cores Nobody
 
 -- a core that may win is one of the table's
 abbrev pub Within : Best → Type 0
@@ -47,5 +40,11 @@ Within (Won k n) = k .0 < cores
 
 -- the grants of unit u, which that core won
 abbrev pub won : ℕ → Best → List Grant
-won u Nobody = []
-won u (Won k n) = grant (unitNo u) k ∷ []
+won u best = elim best [ Nobody ↦ [] | Won k n ↦ grant (unitNo u) k ∷ [] ]
+
+-- the same of the first n cores, as the code goes over no more than the table has
+abbrev pub flagsOf : ℕ → LockUnit → ℕ
+flagsOf n x = count (λ (k : ℕ). registerIn x k .flag) n
+
+abbrev pub nextOf : ℕ → LockUnit → Best
+nextOf n x = upTo (consider x) n Nobody

@@ -27,5 +27,4 @@ enter n x k t =
 -- core k gives up its register, and its flag, if it was set, goes to the next in line
 abbrev pub leave : ℕ → LockUnit → CoreNo → Settled
 leave n x k =
-    let y = registered x (k .0) blank in
-    cond (registerIn x (k .0) .flag) (given y (nextOf n y)) (record { unit = y; winner = Nobody })
+    let y = registered x (k .0) blank in cond (registerIn x (k .0) .flag) (given y (nextOf n y)) (record { unit = y; winner = Nobody })

@@ -49,16 +49,10 @@ inherits all c = some (λ (j : ℕ). lends c (getD all j idle)) cores && older (
 
 abbrev pub carries : List Core → Core → Bool
 carries all c =
-    cond (twoStage (c .state)) (eqb (c .carried .0) (c .own .0) || inherits all c)
-    (eqb (c .carried .0) (c .own .0) && eqb (c .second .0) 0)
+    cond (twoStage (c .state)) (eqb (c .carried .0) (c .own .0) || inherits all c) (eqb (c .carried .0) (c .own .0) && eqb (c .second .0) 0)
 
 -- the clauses of core k
 unfoldable pub coreSound : Counts → Ticket → List Core → ℕ → Bool
 coreSound n m all k =
     let c = getD all k idle in
-    within n k c &&
-    idleBlank c &&
-    named n c &&
-    recent m c &&
-    every (λ (j : ℕ). differ k c j (getD all j idle)) cores &&
-    carries all c
+    within n k c && idleBlank c && named n c && recent m c && every (λ (j : ℕ). differ k c j (getD all j idle)) cores && carries all c

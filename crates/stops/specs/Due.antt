@@ -14,13 +14,10 @@ use Rattle.stops.specs.declared.run.Stop.the-variants.{Finished, Unsound
 
 -- a step line as it is read: 22, 21, and 16 on a table that is not sound
 abbrev pub lineDue : StepLine → Bool → Todo
-lineDue (Line x next) fit = cond fit (Work x next) (Halt Unsound)
-lineDue Nothing fit = Halt Finished
-lineDue NoStep fit = Halt Malformed
-lineDue Cut fit = Halt Unfinished
+lineDue l fit =
+    elim l [ Line x next ↦ cond fit (Work x next) (Halt Unsound) | Nothing ↦ Halt Finished | NoStep ↦ Halt Malformed | Cut ↦ Halt Unfinished ]
 
 -- finished and 24 before them
 abbrev pub due : List ℕ → ℕ → ℕ → Bool → Todo
 due s place steps fit =
-    cond (leb (length s) place) (Halt Finished)
-    (cond (leb stepsMost steps) (Halt TooMany) (lineDue (readStep s place) fit))
+    cond (leb (length s) place) (Halt Finished) (cond (leb stepsMost steps) (Halt TooMany) (lineDue (readStep s place) fit))

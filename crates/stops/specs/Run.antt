@@ -15,19 +15,9 @@ stepsMost = 1000000
 -- before the header; the table that stands here is not looked at
 abbrev pub beginning : Run
 beginning =
-    record {
-      place = 0;
-      wrote = 0;
-      table = build (record { cores = 1; first = 1; second = 0 }) (ticket 0) .table;
-      steps = 0;
-      headed = false;
-    }
+    let t = build (record { cores = 1; first = 1; second = 0 }) (ticket 0) .table in
+    record { place = 0; wrote = 0; table = t; steps = 0; headed = false }
 
 abbrev pub stopNumber : Stop → ℕ
-stopNumber Finished = 0
-stopNumber Unsound = 16
-stopNumber BadHeader = 20
-stopNumber Malformed = 21
-stopNumber Unfinished = 22
-stopNumber NoRoom = 23
-stopNumber TooMany = 24
+stopNumber w =
+    elim w [ Finished ↦ 0 | Unsound ↦ 16 | BadHeader ↦ 20 | Malformed ↦ 21 | Unfinished ↦ 22 | NoRoom ↦ 23 | TooMany ↦ 24 ]

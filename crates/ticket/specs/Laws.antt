@@ -1,4 +1,4 @@
--- What the order of tickets is said to be: on a set of tickets the comparison is a strict total order.
+-- Shown: what the order of tickets is said to be. On a set of tickets the comparison is a strict total order.
 use Prim.Native.Nat.{ℕ}
 use mathlib.Core.Bool.{true, false}
 use mathlib.Core.Logic.{_⊎_}

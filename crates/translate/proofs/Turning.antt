@@ -32,7 +32,9 @@ use Rattle.digits.specs.declared.room.Written.{Written}
 use Rattle.digits.specs.declared.room.Written.the-variants.{Next, OutOfRange, NoRoom as Full}
 use Rattle.stops.specs.Run.{stepsMost}
 use Rattle.stops.specs.Due.{due, lineDue}
-use Rattle.calls.specs.Call.{Desk, Ended, runAt, stoppedAt, answered, worked, opening, turn, translated, call}
+use Rattle.walks.specs.Walk.{Ended}
+use Rattle.calls.specs.Call.{Known, deskOf, call, stopped, output}
+use Rattle.calls.specs.Placed.{runAt, stoppedAt, answered, worked, opening, placed}
 use Rattle.block.specs.Table.{Shaped}
 use Rattle.stops.specs.declared.todo.Todo.{Todo}
 use Rattle.stops.specs.declared.todo.Todo.the-variants.{Work, Stop as Halt}
@@ -41,7 +43,7 @@ use Rattle.stops.specs.declared.run.Stop.{Stop}
 use Rattle.stops.specs.declared.run.Stop.the-variants.{NoRoom, Finished, TooMany, BadHeader, Unfinished}
 use Rattle.stops.specs.declared.run.Stopped.{Stopped}
 use Rattle.writing.proofs.AsWritten.{header-read-is-written}
-use Rattle.calls.proofs.Fuel.{on, stop}
+use Rattle.calls.proofs.Placed.{on, stop}
 use Rattle.laws.proofs.Keeping.{step-sound, step-shaped}
 
 -- a line that is to be worked was read, in time, for a table that is fit
@@ -112,49 +114,48 @@ wrote-ranged out at xs w says is = go (fits out at xs) (sym says ∙ is)
     go false e = let z : _≡_ {A = ℕ} 0 1 = cc in omega arith
 
 -- a line written, and one for which there is no room
-module _ (d : Desk) (xs : List ℕ) (next : ℕ) (t : Table) (steps : ℕ) (w : Written) (o : List ℕ) where
+module _ (r : Run) (out xs : List ℕ) (next : ℕ) (t : Table) (steps : ℕ) (w : Written) (o : List ℕ) where
   pub written :
       (p : ℕ) →
-      w ≡ wrote (d .out) (d .run .wrote) xs →
-      o ≡ left (d .out) (d .run .wrote) xs →
+      w ≡ wrote out (r .wrote) xs →
+      o ≡ left out (r .wrote) xs →
       w ≡ Next p →
-      answered d xs next t steps ≡ inl (record { run = runAt next p t steps; out = o })
+      answered r out xs next t steps ≡ inl (deskOf (runAt next p t steps) o)
   written p says holds is =
-      let f = wrote-fits (d .out) (d .run .wrote) xs w p says is in
+      let f = wrote-fits out (r .wrote) xs w p says is in
       rw (holds, f .1, f .0)
 
   pub unwritten :
-      w ≡ wrote (d .out) (d .run .wrote) xs →
-      o ≡ left (d .out) (d .run .wrote) xs →
+      w ≡ wrote out (r .wrote) xs →
+      o ≡ left out (r .wrote) xs →
       w ≡ Full →
-      (answered d xs next t steps ≡ inr NoRoom) × (o ≡ d .out)
+      (answered r out xs next t steps ≡ inr NoRoom) × (o ≡ out)
   unwritten says holds is =
-      let f = wrote-full (d .out) (d .run .wrote) xs w says is in
+      let f = wrote-full out (r .wrote) xs w says is in
       (rw f, holds ∙ rw f)
 
 module _
-    (s : List ℕ) (place at steps : ℕ) (t : Table) (fit : Bool) (out : List ℕ) (whole : Ended)
+    (s : List ℕ) (place at steps : ℕ) (t : Table) (fit : Bool) (out : List ℕ) (whole : Ended Known Stop)
     (sure : fit ≡ sound t)
-    (so : whole ≡ translated (record { run = runAt place at t steps; out = out }) s)
+    (so : whole ≡ call (runAt place at t steps) s out)
     (d : Todo)
     (says : d ≡ due s place steps fit) where
-  abbrev here : Desk
-  here = record { run = runAt place at t steps; out = out }
+  abbrev here : Run
+  here = runAt place at t steps
 
-  due-here : (e : Todo) → d ≡ e → turn here s ≡ worked here e
-  due-here e is = ap (λ (b : Bool). worked here (due s place steps b)) (sym sure) ∙ ap (worked here) (sym says ∙ is)
+  due-here : (e : Todo) → d ≡ e → placed here out s ≡ worked here out e
+  due-here e is = ap (λ (b : Bool). worked here out (due s place steps b)) (sym sure) ∙ ap (worked here out) (sym says ∙ is)
 
-  ends : (why : Stop) → turn here s ≡ inr why → (stoppedAt place at t steps why ≡ whole .stopped) × (out ≡ whole .out)
+  ends : (why : Stop) → placed here out s ≡ inr why → (stoppedAt place at t steps why ≡ stopped whole) × (out ≡ output whole)
   ends why e =
-      let z = so ∙ stop here s why e in
-      (sym (ap (λ (x : Ended). x .stopped) z), sym (ap (λ (x : Ended). x .out) z))
+      let z = so ∙ stop here out s why e in (sym (ap stopped z), sym (ap output z))
 
   -- finished, 24, 22, 21 and 16
   pub stops :
       (why : Stop) (r : Stopped) →
       d ≡ Halt why →
       r ≡ stoppedAt place at t steps why →
-      (r ≡ whole .stopped) × (out ≡ whole .out)
+      (r ≡ stopped whole) × (out ≡ output whole)
   stops why r is e = let z = ends why (due-here (Halt why) is) in (e ∙ z .0, z .1)
 
   module _ (x : Step) (next : ℕ) (is : d ≡ Work x next) (y : Stepped) (does : y ≡ onSound t x) where
@@ -171,22 +172,22 @@ module _
     abbrev line : List ℕ
     line = expectedBytes (steps + 1) (y .answer) (y .ticket) (y .grants)
 
-    turned : turn here s ≡ answered here line next (y .table) (steps + 1)
+    turned : placed here out s ≡ answered here out line next (y .table) (steps + 1)
     turned =
         due-here (Work x next) is
         ∙ ap
-        (λ (z : Stepped). answered here (expectedBytes (steps + 1) (z .answer) (z .ticket) (z .grants)) next (z .table) (steps + 1))
+        (λ (z : Stepped). answered here out (expectedBytes (steps + 1) (z .answer) (z .ticket) (z .grants)) next (z .table) (steps + 1))
         stepped-here
 
     module _ (w : Written) (o : List ℕ) (wrote-so : (w ≡ wrote out at line) × (o ≡ left out at line)) where
-      pub answers : (p : ℕ) → w ≡ Next p → whole ≡ translated (record { run = runAt next p (y .table) (steps + 1); out = o }) s
-      answers p put = so ∙ on here _ s (turned ∙ written here line next (y .table) (steps + 1) w o p (wrote-so .0) (wrote-so .1) put)
+      pub answers : (p : ℕ) → w ≡ Next p → whole ≡ call (runAt next p (y .table) (steps + 1)) s o
+      answers p put = so ∙ on here out _ s o (turned ∙ written here out line next (y .table) (steps + 1) w o p (wrote-so .0) (wrote-so .1) put)
 
       -- 23
       pub no-room :
-          (r : Stopped) → w ≡ Full → r ≡ stoppedAt place at t steps NoRoom → (r ≡ whole .stopped) × (o ≡ whole .out)
+          (r : Stopped) → w ≡ Full → r ≡ stoppedAt place at t steps NoRoom → (r ≡ stopped whole) × (o ≡ output whole)
       no-room r full e =
-          let u = unwritten here line next (y .table) (steps + 1) w o (wrote-so .0) (wrote-so .1) full in
+          let u = unwritten here out line next (y .table) (steps + 1) w o (wrote-so .0) (wrote-so .1) full in
           let z = ends NoRoom (turned ∙ u .0) in
           (e ∙ z .0, u .1 ∙ z .1)
 
@@ -194,33 +195,29 @@ module _
 pub begins :
     (r : Run) (s out : List ℕ) →
     r .headed ≡ true →
-    call r s out ≡ translated (record { run = runAt (r .place) (r .wrote) (r .table) (r .steps); out = out }) s
+    call r s out ≡ call (runAt (r .place) (r .wrote) (r .table) (r .steps)) s out
 begins r s out e =
     ap
-    (λ (b : Bool). translated (record { run = record { place = r .place; wrote = r .wrote; table = r .table; steps = r .steps; headed = b }; out = out }) s)
+    (λ (b : Bool). call (record { place = r .place; wrote = r .wrote; table = r .table; steps = r .steps; headed = b }) s out)
     e
 
 -- The header's line
 
 module _ (r : Run) (s out : List ℕ) (unread : r .headed ≡ false) (h : HeaderLine) (says : h ≡ readHeader s (r .place)) where
-  abbrev before : Desk
-  before = record { run = r; out = out }
-
-  opens : (g : HeaderLine) → h ≡ g → turn before s ≡ opening before g
+  opens : (g : HeaderLine) → h ≡ g → placed r out s ≡ opening r out g
   opens g is =
-      ap (λ (b : Bool). cond b (worked before (due s (r .place) (r .steps) (sound (r .table)))) (opening before (readHeader s (r .place)))) unread
-      ∙ ap (opening before) (sym says ∙ is)
+      ap (λ (b : Bool). cond b (worked r out (due s (r .place) (r .steps) (sound (r .table)))) (opening r out (readHeader s (r .place)))) unread
+      ∙ ap (opening r out) (sym says ∙ is)
 
-  ended : (why : Stop) → turn before s ≡ inr why → (record { run = r; why = why } ≡ call r s out .stopped) × (out ≡ call r s out .out)
+  ended : (why : Stop) → placed r out s ≡ inr why → (record { run = r; why = why } ≡ stopped (call r s out)) × (out ≡ output (call r s out))
   ended why e =
-      let z = stop before s why e in
-      (sym (ap (λ (x : Ended). x .stopped) z), sym (ap (λ (x : Ended). x .out) z))
+      let z = stop r out s why e in (sym (ap stopped z), sym (ap output z))
 
   -- 20 and 22
-  pub no-header : h ≡ NoHeader → (record { run = r; why = BadHeader } ≡ call r s out .stopped) × (out ≡ call r s out .out)
+  pub no-header : h ≡ NoHeader → (record { run = r; why = BadHeader } ≡ stopped (call r s out)) × (out ≡ output (call r s out))
   no-header is = ended BadHeader (opens NoHeader is)
 
-  pub cut-header : h ≡ CutHeader → (record { run = r; why = Unfinished } ≡ call r s out .stopped) × (out ≡ call r s out .out)
+  pub cut-header : h ≡ CutHeader → (record { run = r; why = Unfinished } ≡ stopped (call r s out)) × (out ≡ output (call r s out))
   cut-header is = ended Unfinished (opens CutHeader is)
 
   module _ (c : Counts) (n : Ticket) (next : ℕ) (is : h ≡ Header c n next) (w : Written) (o : List ℕ) where
@@ -228,7 +225,7 @@ module _ (r : Run) (s out : List ℕ) (unread : r .headed ≡ false) (h : Header
     first = headerBytes letterE c n
 
     ranged : inRange c ≡ true
-    ranged = header-read-is-written s (r .place) c n next (sym says ∙ is) .2
+    ranged = header-read-is-written s (r .place) c n next (sym says ∙ is) .1
 
     module _ (wrote-so : (w ≡ wroteHeader out (r .wrote) letterE c n) × (o ≡ leftHeader out (r .wrote) letterE c n)) where
       put : w ≡ wrote out (r .wrote) first
@@ -242,23 +239,23 @@ module _ (r : Run) (s out : List ℕ) (unread : r .headed ≡ false) (h : Header
           (p : ℕ) (q : Run) (e : Stopped) (o' : List ℕ) →
           w ≡ Next p →
           q ≡ runAt next p (build c n .table) (r .steps) →
-          (e ≡ call q s o .stopped) × (o' ≡ call q s o .out) →
-          (e ≡ call r s out .stopped) × (o' ≡ call r s out .out)
+          (e ≡ stopped (call q s o)) × (o' ≡ output (call q s o)) →
+          (e ≡ stopped (call r s out)) × (o' ≡ output (call r s out))
       opened-by p q e o' put-at desk goes =
           let z : call r s out ≡ call q s o =
-          on before (record { run = runAt next p (build c n .table) (r .steps); out = o }) s
-          (opens (Header c n next) is ∙ written before first next (build c n .table) (r .steps) w o p put holds put-at)
+          on r out (runAt next p (build c n .table) (r .steps)) s o
+          (opens (Header c n next) is ∙ written r out first next (build c n .table) (r .steps) w o p put holds put-at)
           ∙ sym (ap (λ (m : Run). call m s o) desk)
           in
-          (goes .0 ∙ sym (ap (λ (x : Ended). x .stopped) z), goes .1 ∙ sym (ap (λ (x : Ended). x .out) z))
+          (goes .0 ∙ sym (ap stopped z), goes .1 ∙ sym (ap output z))
 
       pub out-of-range : w ≡ OutOfRange → ⊥
       out-of-range e = wrote-ranged out (r .wrote) first w put e
 
       -- 23
-      pub no-room-opening : w ≡ Full → (record { run = r; why = NoRoom } ≡ call r s out .stopped) × (o ≡ call r s out .out)
+      pub no-room-opening : w ≡ Full → (record { run = r; why = NoRoom } ≡ stopped (call r s out)) × (o ≡ output (call r s out))
       no-room-opening full =
-          let u = unwritten before first next (build c n .table) (r .steps) w o put holds full in
+          let u = unwritten r out first next (build c n .table) (r .steps) w o put holds full in
           let z = ended NoRoom (opens (Header c n next) is ∙ u .0) in
           (z .0, u .1 ∙ z .1)
 

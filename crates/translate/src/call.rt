@@ -24,7 +24,8 @@ ghost use Rattle.building.specs.Build.{build};
 ghost use Rattle.block.specs.Sound.{sound};
 ghost use Rattle.digits.specs.Text.{Puts};
 ghost use Rattle.expected.specs.Expected.{expectedBytes};
-ghost use Rattle.calls.specs.Call.{runAt, stoppedAt, call};
+ghost use Rattle.calls.specs.Call.{call, stopped, output};
+ghost use Rattle.calls.specs.Placed.{runAt, stoppedAt};
 
 // The run stopped, with its table.
 fn stopped(run: Run, t: Table, why: Stop) -> Stopped
@@ -65,7 +66,7 @@ fn put_line(out: &mut [u8], at: usize, number: u32, x: Plan) -> usize
 // is put back in place.
 fn step_lines(run: Run, fit: bool, script: &[u8], out: &mut [u8]) -> Stopped
     requires { ⌜ (run .headed ≡ true) × (fit ≡ sound (run .table)) ⌝ }
-    ensures { λ r. ⌜ (r ≡ call run (now (script .entry)) (now (out .entry)) .stopped) × (now (out .exit) ≡ call run (now (script .entry)) (now (out .entry)) .out) ⌝ }
+    ensures { λ r. ⌜ (r ≡ stopped (call run (now (script .entry)) (now (out .entry)))) × (now (out .exit) ≡ output (call run (now (script .entry)) (now (out .entry)))) ⌝ }
 {
     let mut at = run;
     let mut table = run.table;
@@ -117,7 +118,7 @@ fn fresh_run(place: usize, wrote: usize, counts: Counts, counter: Ticket, steps:
 // The header's line, and the step lines after it.
 fn from_header(run: Run, script: &[u8], out: &mut [u8]) -> Stopped
     requires { ⌜ run .headed ≡ false ⌝ }
-    ensures { λ r. ⌜ (r ≡ call run (now (script .entry)) (now (out .entry)) .stopped) × (now (out .exit) ≡ call run (now (script .entry)) (now (out .entry)) .out) ⌝ }
+    ensures { λ r. ⌜ (r ≡ stopped (call run (now (script .entry)) (now (out .entry)))) × (now (out .exit) ≡ output (call run (now (script .entry)) (now (out .entry)))) ⌝ }
 {
     let place = run.place;
     let wrote = run.wrote;
@@ -152,7 +153,7 @@ fn from_header(run: Run, script: &[u8], out: &mut [u8]) -> Stopped
 
 // The lines of a script from where the run stands, each answered whole in the output.
 pub fn translate(run: Run, script: &[u8], out: &mut [u8]) -> Stopped
-    ensures { λ r. ⌜ (r ≡ call run (now (script .entry)) (now (out .entry)) .stopped) × (now (out .exit) ≡ call run (now (script .entry)) (now (out .entry)) .out) ⌝ }
+    ensures { λ r. ⌜ (r ≡ stopped (call run (now (script .entry)) (now (out .entry)))) × (now (out .exit) ≡ output (call run (now (script .entry)) (now (out .entry)))) ⌝ }
 {
     if run.headed {
         let table = run.table;

@@ -15,6 +15,3 @@ less-counts n xs h = counts n xs (omega arith)
 
 pub all-counts : (xs : List ℕ) → Counts (length xs) xs
 all-counts xs = counts (length xs) xs (omega arith)
-
-pub kept-counts : (n : ℕ) (xs ys : List ℕ) → (length xs ≡ length ys) × (n ≤ length ys) → Counts n xs
-kept-counts n xs ys h = counts n xs (omega (arith, h .0, h .1))

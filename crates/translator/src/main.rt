@@ -5,6 +5,9 @@
 use libc::STDERR_FILENO;
 use libc::STDIN_FILENO;
 use libc::STDOUT_FILENO;
+use pieces::fronted;
+use pieces::keep;
+use pieces::work;
 use stops::Run;
 use stops::Stop;
 ghost use Rattle.io.specs.Counts.{Counts};
@@ -39,17 +42,16 @@ fn every_turn(input: &mut [u8], output: &mut [u8]) {
 
 // One call, whose answers go out; and what follows from why it stopped.
 fn turn(p: Progress, input: &mut [u8], output: &mut [u8]) -> Progress {
-    let have = within(p.have, input);
+    let have = p.have;
     let run = p.run;
-    let s = translate::translate(run, &input[..have], output);
+    let s = work(run, input, have, output);
     let why = s.why;
     let stands = s.run;
     let sent = send(output, stands.wrote);
-    let next = emptied(stands);
     if sent {
-        follow(next, have, why, input)
+        follow(stands, have, why, input)
     } else {
-        ended(next)
+        ended(stands)
     }
 }
 
@@ -92,20 +94,6 @@ fn ended(run: Run) -> Progress {
     }
 }
 
-// The run with its output taken away.
-fn emptied(run: Run) -> Run {
-    let mut r = run;
-    r.wrote = 0;
-    r
-}
-
-// The run at the front of the piece.
-fn fronted(run: Run) -> Run {
-    let mut r = run;
-    r.place = 0;
-    r
-}
-
 // What is left of the piece moves to its front, and more of the script is read after it.
 fn read_on(run: Run, have: usize, why: Stop, input: &mut [u8]) -> Progress {
     let rest = keep(input, run.place, have);
@@ -120,21 +108,6 @@ fn read_on(run: Run, have: usize, why: Stop, input: &mut [u8]) -> Progress {
         return last(next, why);
     }
     going(next, sum(rest, n))
-}
-
-// The bytes from a place on, of those that the piece has, move to its front. Answers how many.
-fn keep(input: &mut [u8], place: usize, have: usize) -> usize
-    ensures { λ r. ⌜ Counts r (now (input .exit)) ⌝ }
-{
-    let end = within(have, input);
-    let mut rest = 0;
-    let mut i = place;
-    while i < end {
-        input[rest] = input[i];
-        rest += 1;
-        i += 1;
-    }
-    rest
 }
 
 // One read into the piece, after the bytes that were kept.

@@ -8,7 +8,7 @@ use Rattle.block.specs.Sound.{sound}
 use Rattle.block.specs.Steps.{onSound, step}
 use Rattle.numbers.specs.Number.{scan, digits}
 use Rattle.lines.specs.Reading.{ending}
-use Rattle.calls.specs.Call.{lines}
+use Rattle.walks.specs.Walk.{lines}
 use Rattle.vectors.specs.Table.{table, requestAt, Every}
 
 pub every-row : Every table

@@ -1,4 +1,4 @@
--- "Proved, as a single table: older for (65535, 0) yes, (0, 65535) no, (0, 32767) yes, (32767, 0) no, (0, 32768) yes,
+-- Shown: "Proved, as a single table: older for (65535, 0) yes, (0, 65535) no, (0, 32767) yes, (32767, 0) no, (0, 32768) yes,
 -- (32768, 0) yes, (7, 7) no; words 65,536, 262,143 and 131,072; request with ticket 0 live and counter 32,767 answered 0, with counter 32,768 answered 15; the run above."
 use Prim.Native.Nat.{ℕ}
 use mathlib.Core.Bool.{Bool, true, false}
@@ -14,7 +14,7 @@ use Rattle.parts.specs.Answer.{numberOf}
 use Rattle.block.specs.Steps.{step}
 use Rattle.parts.specs.declared.answer.Step.the-variants.{R}
 use Rattle.stops.specs.Run.{beginning}
-use Rattle.calls.specs.Call.{call}
+use Rattle.calls.specs.Call.{call, output}
 use Rattle.stops.specs.declared.run.Stop.the-variants.{Finished}
 use Rattle.words.specs.Word.{unpack}
 use Rattle.words.specs.declared.word.Unpacked.{Unpacked}
@@ -96,7 +96,7 @@ requestAt counter =
 abbrev pub Filled : List ℕ → List ℕ → Type 0
 Filled s out =
     let e = call beginning s (replicate (length out) 0) in
-    (e .stopped .why ≡ Finished) × (e .stopped .run .wrote ≡ length out) × (e .out ≡ out)
+    (e .why ≡ Finished) × (e .desk .first .wrote ≡ length out) × (output e ≡ out)
 
 -- the definitions give the document's answer
 abbrev pub Computes : Row → Type 0

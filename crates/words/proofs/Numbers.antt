@@ -2,9 +2,8 @@
 use Prim.Native.Nat.{ℕ}
 use mathlib.Core.Bool.{Bool, true, false, cond}
 use mathlib.Core.Path.{_≡_, refl}
-use lib.Dec.{leb}
 use Rattle.parts.specs.declared.kinds.Register.{Register}
-use Rattle.words.specs.Word.{packable, wordOf, pack, registerOf, unpack, packedNumber, unpackedNumber}
+use Rattle.words.specs.Word.{packable, wordOf, pack, registerOf, isGood, unpack, packedNumber, unpackedNumber}
 use Rattle.words.specs.declared.word.Packed.the-variants.{Word, Refused}
 use Rattle.words.specs.declared.word.Unpacked.the-variants.{Register as Shown, Refused as Bad}
 
@@ -16,12 +15,5 @@ one-choice f false x y = refl
 pub pack-number : (r : Register) → packedNumber (pack r) ≡ cond (packable r) 0 30
 pack-number r = one-choice packedNumber (packable r) (Word (wordOf r)) Refused
 
-pub unpack-number : (w : ℕ) → unpackedNumber (unpack w) ≡ cond (leb 262144 w) 30 (cond (packable (registerOf w)) 0 30)
-unpack-number w = go (leb 262144 w)
-  where
-    go :
-        (b : Bool) →
-        unpackedNumber (cond b Bad (cond (packable (registerOf w)) (Shown (registerOf w)) Bad)) ≡
-        cond b 30 (cond (packable (registerOf w)) 0 30)
-    go true = refl
-    go false = one-choice unpackedNumber (packable (registerOf w)) (Shown (registerOf w)) Bad
+pub unpack-number : (w : ℕ) → unpackedNumber (unpack w) ≡ cond (isGood w) 0 30
+unpack-number w = one-choice unpackedNumber (isGood w) (Shown (registerOf w)) Bad

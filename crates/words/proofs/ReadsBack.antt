@@ -4,9 +4,10 @@ use Prim.Native.Nat.{ℕ, _<_}
 use mathlib.Core.Bool.{Bool, true, false}
 use mathlib.Core.Path.{_≡_, refl, sym, _∙_, ap}
 use native.Mathlib.Omega.{arith}
-use borrow.Author.Tests.{lt-leb}
+use borrow.Author.Tests.{lt-ltb}
 use Rattle.ticket.specs.Kinds.{ticket}
 use Rattle.parts.specs.declared.kinds.Register.{Register}
+use Rattle.parts.proofs.Bools.{and-both}
 use Rattle.words.specs.Word.{packable, wordOf, pack, registerOf, unpack, isGood}
 use Rattle.words.specs.Claims.{WordReadsBack, WordIsWritten}
 use Rattle.words.specs.declared.word.Packed.the-variants.{Word, Refused}
@@ -22,22 +23,45 @@ pub pack-refuses : (r : Register) → packable r ≡ false → pack r ≡ Refuse
 pack-refuses r e = rw e
 
 module _ (w : ℕ) where
-  unpacks : w < 262144 → packable (registerOf w) ≡ true → unpack w ≡ Shown (registerOf w)
-  unpacks h e = rw (lt-leb 262144 w h, e)
+  pub unpacks : isGood w ≡ true → unpack w ≡ Shown (registerOf w)
+  unpacks e = rw e
 
-  -- a word that shows a register is good, and that register is its own
+  pub unpack-refuses : isGood w ≡ false → unpack w ≡ Bad
+  unpack-refuses e = rw e
+
+  -- a word that shows a register is good, a refused one is not, and the register that it shows is its own
+  pub shown-good : (r : Register) → unpack w ≡ Shown r → isGood w ≡ true
+  shown-good r shown = go (isGood w) refl
+    where
+      go : (b : Bool) → isGood w ≡ b → isGood w ≡ true
+      go true e = e
+      go false e =
+          let both : Shown r ≡ Bad = sym shown ∙ unpack-refuses e in
+          let z : _≡_ {A = ℕ} 0 1 = cc in
+          absurd (omega arith)
+
+  pub refused-bad : unpack w ≡ Bad → isGood w ≡ false
+  refused-bad none = go (isGood w) refl
+    where
+      go : (b : Bool) → isGood w ≡ b → isGood w ≡ false
+      go true e =
+          let both : Bad ≡ Shown (registerOf w) = sym none ∙ unpacks e in
+          let z : _≡_ {A = ℕ} 0 1 = cc in
+          absurd (omega arith)
+      go false e = e
+
   pub shown-own : (r : Register) → unpack w ≡ Shown r → r ≡ registerOf w
   shown-own r shown =
-      let good : isGood (unpack w) ≡ true = ap isGood shown in
-      let own = unpacks (narrow w good) (good-packable w good) in
-      let both : Shown r ≡ Shown (registerOf w) = sym shown ∙ own in
+      let both : Shown r ≡ Shown (registerOf w) = sym shown ∙ unpacks (shown-good r shown) in
       cc
 
 -- the word of a packable register shows that register
-pub shows : (r : Register) → r .ticket .0 < 65536 → packable r ≡ true → unpack (wordOf r) ≡ Shown r
-shows r low e =
-    let same = word-register r low in
-    unpacks (wordOf r) (word-narrow r low) (ap packable same ∙ e) ∙ ap Shown same
+module _ (r : Register) (low : r .ticket .0 < 65536) (e : packable r ≡ true) where
+  pub shows-good : isGood (wordOf r) ≡ true
+  shows-good = and-both (lt-ltb (wordOf r) 262144 (word-narrow r low)) (ap packable (word-register r low) ∙ e)
+
+  pub shows : unpack (wordOf r) ≡ Shown r
+  shows = unpacks (wordOf r) shows-good ∙ ap Shown (word-register r low)
 
 -- each register that is accepted reads back
 pub pack-unpack : WordReadsBack
@@ -56,7 +80,7 @@ pack-unpack r w low packed = go (packable r) refl
 -- each word that is accepted is the word of its register
 pub unpack-pack : WordIsWritten
 unpack-pack w r shown =
-    let good : isGood (unpack w) ≡ true = ap isGood shown in
+    let good = shown-good w r shown in
     ap pack (shown-own w r shown) ∙ packs (registerOf w) (good-packable w good) ∙ ap Word (register-word w (narrow w good))
 
 -- the readings that 01 names

@@ -1,18 +1,15 @@
 -- "A register reads back as 32 bits: bits 0 to 15 ticket, bit 16 valid, bit 17 flag, the rest 0. An invalid register is the word 0.
 -- Anything else is 30." "Writing an invalid register that has a ticket other than 0 or a flag is 30 too."
 use Prim.Native.Nat.{ℕ, _+_, _*_, _/_, _%_}
-use mathlib.Core.Bool.{Bool, true, false, cond, _&&_, _||_, not}
-use lib.Dec.{eqb, leb}
+use mathlib.Core.Bool.{Bool, cond, _&&_, _||_, not}
+use lib.Dec.{eqb, ltb}
 use Rattle.ticket.specs.Kinds.{ticket}
+pub use Rattle.parts.specs.Fold.{one as bit}
 use Rattle.parts.specs.declared.kinds.Register.{Register}
 use Rattle.words.specs.declared.word.Packed.{Packed}
 use Rattle.words.specs.declared.word.Packed.the-variants.{Word, Refused}
 use Rattle.words.specs.declared.word.Unpacked.{Unpacked}
 use Rattle.words.specs.declared.word.Unpacked.the-variants.{Register as Shown, Refused as Bad}
-
-abbrev pub bit : Bool → ℕ
-bit true = 1
-bit false = 0
 
 -- ticket in bits 0 to 15, valid in bit 16, flag in bit 17
 abbrev pub wordOf : Register → ℕ
@@ -29,19 +26,16 @@ pack r = cond (packable r) (Word (wordOf r)) Refused
 abbrev pub registerOf : ℕ → Register
 registerOf w = record { ticket = ticket (w % 65536); valid = eqb (w / 65536 % 2) 1; flag = eqb (w / 131072) 1 }
 
-abbrev pub unpack : ℕ → Unpacked
-unpack w = cond (leb 262144 w) Bad (cond (packable (registerOf w)) (Shown (registerOf w)) Bad)
+-- a word that shows a register: the rest of its bits is 0, and an invalid register is the word 0
+abbrev pub isGood : ℕ → Bool
+isGood w = ltb w 262144 && packable (registerOf w)
 
--- a word that shows a register is good
-abbrev pub isGood : Unpacked → Bool
-isGood (Shown r) = true
-isGood Bad = false
+abbrev pub unpack : ℕ → Unpacked
+unpack w = cond (isGood w) (Shown (registerOf w)) Bad
 
 -- the numbers that the answers carry: 30 where no word or register is given
 abbrev pub packedNumber : Packed → ℕ
-packedNumber (Word w) = 0
-packedNumber Refused = 30
+packedNumber p = elim p [ Word w ↦ 0 | Refused ↦ 30 ]
 
 abbrev pub unpackedNumber : Unpacked → ℕ
-unpackedNumber (Shown r) = 0
-unpackedNumber Bad = 30
+unpackedNumber u = elim u [ Shown r ↦ 0 | Bad ↦ 30 ]

@@ -2,8 +2,9 @@
 use parts::Register;
 use ticket::Ticket;
 ghost use mathlib.Core.Path.{_≡_};
+ghost use mathlib.Core.Bool.{cond};
 ghost use Prim.Native.Nat.{_<_};
-ghost use Rattle.words.specs.Word.{bit, wordOf, packable, pack, registerOf, unpack};
+ghost use Rattle.words.specs.Word.{bit, wordOf, packable, pack, registerOf, isGood, unpack, packedNumber, unpackedNumber};
 
 // The word of a register, or 30: an invalid register has ticket 0 and no flag.
 pub enum Packed {
@@ -41,7 +42,7 @@ fn packable(r: Register) -> bool
 
 // The word of a register.
 pub fn pack(r: Register) -> Packed
-    ensures { λ x. ⌜ x ≡ pack r ⌝ }
+    ensures { λ x. ⌜ (x ≡ pack r) × (packedNumber x ≡ cond (packable r) 0 30) ⌝ }
 {
     if packable(r) {
         Packed::Word(word_of(r))
@@ -64,7 +65,7 @@ fn register_of(w: u32) -> Register
 
 // The register of a word: bits above 17 are 0, and an invalid register is the word 0.
 pub fn unpack(w: u32) -> Unpacked
-    ensures { λ x. ⌜ x ≡ unpack w ⌝ }
+    ensures { λ x. ⌜ (x ≡ unpack w) × (unpackedNumber x ≡ cond (isGood w) 0 30) ⌝ }
 {
     if (w >> 18) != 0 {
         return Unpacked::Refused;

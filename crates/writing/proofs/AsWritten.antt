@@ -17,13 +17,14 @@ use Rattle.parts.specs.declared.kinds.Counts.{Counts}
 use Rattle.parts.specs.declared.answer.Step.{Step}
 use Rattle.parts.specs.declared.answer.Step.the-variants.{R, N, P, I, C, L}
 use Rattle.numbers.specs.Bytes.{tab, end}
-use Rattle.lines.specs.Bytes.{lineMost, letterT, letterR, letterN, letterP, letterI, letterC, letterL}
+use Rattle.lines.specs.Bytes.{lineMost, letterT}
+use Rattle.lines.proofs.Letters.{letterR, letterN, letterP, letterI, letterC, letterL}
 use Rattle.numbers.specs.Number.{decimal, numberMost, field}
 use Rattle.lines.specs.Reading.{ending, lineEnd, oneNumber, twoNumbers, afterCore, afterLetter, parseStep, stepLine, stepTo}
 use Rattle.headers.specs.Header.{withCounter, withSecond, withFirst, withCores, parseHeader, headerLine, headerTo}
 use Rattle.digits.specs.Text.{tabbed}
-use Rattle.writing.specs.Writing.{lettered, lettered2, stepBytes, headerBytes}
-use Rattle.writing.specs.Claims.{Small, StepIsWritten, HeaderIsWritten}
+use Rattle.writing.specs.Writing.{lettered, lettered2, numbersOf, stepBytes, headerBytes}
+use Rattle.writing.specs.Claims.{Small, Stands, StepIsWritten, HeaderIsWritten}
 use Rattle.numbers.specs.declared.number.Field.{Field}
 use Rattle.numbers.specs.declared.number.Field.the-variants.{Bad, Last, Then}
 use Rattle.lines.specs.declared.reading.Ending.{Ending}
@@ -107,7 +108,7 @@ letter-tab (a ∷ b ∷ bs) e = ap (λ (c : ℕ). a ∷ c ∷ bs) e
 
 -- the line's bytes, its end with them, are the step as it is written
 abbrev StepSays : List ℕ → Parsed → Type 0
-StepSays l (Good x) = (l ≡ stepBytes x) × Small x
+StepSays l (Good x) = (l ≡ stepBytes x) × Small (numbersOf x)
 StepSays l Not = Unit
 
 -- one letter of those that are tried in turn
@@ -126,17 +127,17 @@ one-says : (a k : ℕ) → k ≤ numberMost → StepSays (lettered a k) (oneNumb
 one-says a k h =
     let l = lettered a k in
     let this : (b : ℕ) → a ≡ b → l ≡ lettered b k = λ (b : ℕ) e. ap (λ (c : ℕ). lettered c k) e in
-    tried l a letterP (P (coreNo k)) _ (λ e. (this letterP e, h))
-    (tried l a letterI (I (coreNo k)) _ (λ e. (this letterI e, h))
-    (tried l a letterC (C (coreNo k)) _ (λ e. (this letterC e, h))
-    (tried l a letterL (L (coreNo k)) _ (λ e. (this letterL e, h)) tt)))
+    tried l a letterP (P (coreNo k)) _ (λ e. (this letterP e, (h, tt)))
+    (tried l a letterI (I (coreNo k)) _ (λ e. (this letterI e, (h, tt)))
+    (tried l a letterC (C (coreNo k)) _ (λ e. (this letterC e, (h, tt)))
+    (tried l a letterL (L (coreNo k)) _ (λ e. (this letterL e, (h, tt))) tt)))
 
 two-says : (a k u : ℕ) → k ≤ numberMost → u ≤ numberMost → StepSays (lettered2 a k u) (twoNumbers a k u)
 two-says a k u h g =
     let l = lettered2 a k u in
     let this : (b : ℕ) → a ≡ b → l ≡ lettered2 b k u = λ (b : ℕ) e. ap (λ (c : ℕ). lettered2 c k u) e in
-    tried l a letterR (R (coreNo k) (unitNo u)) _ (λ e. (this letterR e, (h, g)))
-    (tried l a letterN (N (coreNo k) (unitNo u)) _ (λ e. (this letterN e, (h, g))) tt)
+    tried l a letterR (R (coreNo k) (unitNo u)) _ (λ e. (this letterR e, (h, (g, tt))))
+    (tried l a letterN (N (coreNo k) (unitNo u)) _ (λ e. (this letterN e, (h, (g, tt)))) tt)
 
 module _ (s : List ℕ) (a : ℕ) where
   core-says :
@@ -171,7 +172,7 @@ parse-says s = go (eqb (getD s 1 0) tab) refl
 -- what stands in s from the line's start up to the place after it is the step as it is written
 abbrev LineSays : List ℕ → ℕ → StepLine → Type 0
 LineSays s at (Line x next) =
-    (take (next - at) (drop at s) ≡ stepBytes x) × (next ≡ at + length (stepBytes x)) × Small x
+    Stands s at next (stepBytes x) × Small (numbersOf x)
 LineSays s at Finished = Unit
 LineSays s at Malformed = Unit
 LineSays s at Unfinished = Unit
@@ -180,7 +181,7 @@ step-to-says : (s : List ℕ) (at : ℕ) (w : Ending) → EndSays at (drop at s)
 step-to-says s at (At e) (xs, rest, d, is) = rw (up-to-end s xs rest at e d is) (go (parseStep xs) (parse-says xs))
   where
     go : (r : Parsed) → StepSays (xs ++ (end ∷ [])) r → LineSays s at (stepLine r (e + 1))
-    go (Good x) (l, h) = (with-end s xs rest at e d is ∙ l, after-end s xs rest at e d is ∙ ap (λ (b : List ℕ). at + length b) l, h)
+    go (Good x) (l, h) = ((with-end s xs rest at e d is ∙ l, after-end s xs rest at e d is ∙ ap (λ (b : List ℕ). at + length b) l), h)
     go Not says = tt
 step-to-says s at Long says = tt
 step-to-says s at Short says = tt
@@ -254,10 +255,7 @@ module _ (s : List ℕ) where
 
 abbrev HeaderSays : List ℕ → ℕ → HeaderLine → Type 0
 HeaderSays s at (Header c n next) =
-    (take (next - at) (drop at s) ≡ headerBytes letterT c n)
-    × (next ≡ at + length (headerBytes letterT c n))
-    × (inRange c ≡ true)
-    × (n .0 ≤ numberMost)
+    Stands s at next (headerBytes letterT c n) × (inRange c ≡ true) × (n .0 ≤ numberMost)
 HeaderSays s at BadHeader = Unit
 HeaderSays s at Unended = Unit
 
@@ -271,7 +269,7 @@ header-to-says s at (At e) (xs, rest, d, is) = rw (up-to-end s xs rest at e d is
         inRange c ≡ t →
         HeaderSays s at (cond t (Header c n (e + 1)) BadHeader)
     ranged c n (l, h) true good =
-        (with-end s xs rest at e d is ∙ l, after-end s xs rest at e d is ∙ ap (λ (b : List ℕ). at + length b) l, good, h)
+        ((with-end s xs rest at e d is ∙ l, after-end s xs rest at e d is ∙ ap (λ (b : List ℕ). at + length b) l), good, h)
     ranged c n says false good = tt
 
     go : (r : ParsedHeader) → HeadSays (xs ++ (end ∷ [])) r → HeaderSays s at (headerLine r (e + 1))

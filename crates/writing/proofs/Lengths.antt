@@ -16,10 +16,11 @@ use Rattle.parts.specs.Parts.{cores}
 use Rattle.parts.specs.declared.kinds.Counts.{Counts}
 use Rattle.parts.specs.declared.answer.Step.{Step}
 use Rattle.parts.specs.declared.answer.Step.the-variants.{R, N, P, I, C, L}
-use Rattle.lines.specs.Bytes.{lineMost, letterT, letterR, letterN, letterP, letterI, letterC, letterL}
+use Rattle.lines.specs.Bytes.{lineMost, letterT}
+use Rattle.lines.proofs.Letters.{letterR, letterN, letterP, letterI, letterC, letterL}
 use Rattle.numbers.specs.Number.{digits, numberMost}
 use Rattle.digits.proofs.Lengths.{decimal-one, decimal-five}
-use Rattle.writing.specs.Writing.{lettered, lettered2, stepBytes, headerBytes}
+use Rattle.writing.specs.Writing.{lettered, lettered2, numbersOf, stepBytes, headerBytes}
 use Rattle.writing.specs.Claims.{Small}
 
 lettered-most : (letter k : ℕ) → k ≤ numberMost → length (lettered letter k) ≤ lineMost
@@ -28,13 +29,13 @@ lettered-most letter k h = simp length-append (omega (arith, decimal-five k h))
 lettered2-most : (letter k u : ℕ) → k ≤ numberMost → u ≤ numberMost → length (lettered2 letter k u) ≤ lineMost
 lettered2-most letter k u h l = simp length-append (omega (arith, decimal-five k h, decimal-five u l))
 
-pub step-most : (s : Step) → Small s → length (stepBytes s) ≤ lineMost
-step-most (R k u) h = lettered2-most letterR (k .0) (u .0) (h .0) (h .1)
-step-most (N k u) h = lettered2-most letterN (k .0) (u .0) (h .0) (h .1)
-step-most (P k) h = lettered-most letterP (k .0) h
-step-most (I k) h = lettered-most letterI (k .0) h
-step-most (C k) h = lettered-most letterC (k .0) h
-step-most (L k) h = lettered-most letterL (k .0) h
+pub step-most : (s : Step) → Small (numbersOf s) → length (stepBytes s) ≤ lineMost
+step-most (R k u) h = lettered2-most letterR (k .0) (u .0) (h .0) (h .1 .0)
+step-most (N k u) h = lettered2-most letterN (k .0) (u .0) (h .0) (h .1 .0)
+step-most (P k) h = lettered-most letterP (k .0) (h .0)
+step-most (I k) h = lettered-most letterI (k .0) (h .0)
+step-most (C k) h = lettered-most letterC (k .0) (h .0)
+step-most (L k) h = lettered-most letterL (k .0) (h .0)
 
 pub header-most :
     (letter : ℕ) (c : Counts) (n : Ticket) →

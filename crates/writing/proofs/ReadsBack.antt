@@ -18,7 +18,8 @@ use Rattle.parts.specs.declared.kinds.Counts.{Counts}
 use Rattle.parts.specs.declared.answer.Step.{Step}
 use Rattle.parts.specs.declared.answer.Step.the-variants.{R, N, P, I, C, L}
 use Rattle.numbers.specs.Bytes.{tab, end}
-use Rattle.lines.specs.Bytes.{lineMost, letterT, letterR, letterN, letterP, letterI, letterC, letterL}
+use Rattle.lines.specs.Bytes.{lineMost, letterT}
+use Rattle.lines.proofs.Letters.{letterR, letterN, letterP, letterI, letterC, letterL}
 use Rattle.numbers.specs.Number.{decimal, numberMost, scan, field}
 use Rattle.lines.specs.Reading.{ending, lineEnd, oneNumber, twoNumbers, parseStep, stepLine, readStep}
 use Rattle.headers.specs.Header.{parseHeader, headerLine, readHeader}
@@ -142,12 +143,12 @@ module _ (pre post : List ℕ) (letter k : ℕ) (x : Step) (other : letter ≡ e
       step-line pre post (lettered2 letter k u) body whole plain (omega arith) ∙ simp (first .0, second, is)
 
 pub read-step-written : StepReadsBack
-read-step-written pre post (R k u) h = two-written pre post letterR (k .0) (R k u) (λ e. omega arith) (h .0) (u .0) (h .1) refl
-read-step-written pre post (N k u) h = two-written pre post letterN (k .0) (N k u) (λ e. omega arith) (h .0) (u .0) (h .1) refl
-read-step-written pre post (P k) h = one-written pre post letterP (k .0) (P k) (λ e. omega arith) h refl
-read-step-written pre post (I k) h = one-written pre post letterI (k .0) (I k) (λ e. omega arith) h refl
-read-step-written pre post (C k) h = one-written pre post letterC (k .0) (C k) (λ e. omega arith) h refl
-read-step-written pre post (L k) h = one-written pre post letterL (k .0) (L k) (λ e. omega arith) h refl
+read-step-written (R k u) h pre post = two-written pre post letterR (k .0) (R k u) (λ e. omega arith) (h .0) (u .0) (h .1 .0) refl
+read-step-written (N k u) h pre post = two-written pre post letterN (k .0) (N k u) (λ e. omega arith) (h .0) (u .0) (h .1 .0) refl
+read-step-written (P k) h pre post = one-written pre post letterP (k .0) (P k) (λ e. omega arith) (h .0) refl
+read-step-written (I k) h pre post = one-written pre post letterI (k .0) (I k) (λ e. omega arith) (h .0) refl
+read-step-written (C k) h pre post = one-written pre post letterC (k .0) (C k) (λ e. omega arith) (h .0) refl
+read-step-written (L k) h pre post = one-written pre post letterL (k .0) (L k) (λ e. omega arith) (h .0) refl
 
 -- The header
 
@@ -217,6 +218,6 @@ module _ (c : Counts) (n : Ticket) where
         simp (one .0, two .0, three .0, four)
 
 pub read-header-written : HeaderReadsBack
-read-header-written pre post c n good most =
+read-header-written c n good most pre post =
     header-line pre post (headerBytes letterT c n) (header c n) (header-whole c n) (header-plain c n) (header-few c n good most)
     ∙ simp (header-parsed c n good most, good)

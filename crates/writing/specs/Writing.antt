@@ -9,30 +9,28 @@ use Rattle.parts.specs.declared.kinds.Counts.{Counts}
 use Rattle.parts.specs.declared.answer.Step.{Step}
 use Rattle.parts.specs.declared.answer.Step.the-variants.{R, N, P, I, C, L}
 use Rattle.numbers.specs.Bytes.{end}
-use Rattle.lines.specs.Bytes.{letterR, letterN, letterP, letterI, letterC, letterL}
+use Rattle.lines.specs.Bytes.{letterOf}
 use Rattle.digits.specs.Text.{tabbed}
 use Rattle.digits.specs.Room.{wrote, left}
 use Rattle.digits.specs.declared.room.Written.{Written}
 use Rattle.digits.specs.declared.room.Written.the-variants.{OutOfRange}
 
--- a letter and one number, or two
-abbrev pub lettered : ℕ → ℕ → List ℕ
-lettered letter k = letter ∷ tabbed k ++ (end ∷ [])
+-- each number behind a tab, and the line's end
+abbrev pub fields : List ℕ → List ℕ
+fields [] = end ∷ []
+fields (n ∷ ns) = tabbed n ++ fields ns
 
-abbrev pub lettered2 : ℕ → ℕ → ℕ → List ℕ
-lettered2 letter k u = letter ∷ tabbed k ++ (tabbed u ++ (end ∷ []))
+-- "the letter and its numbers"
+abbrev pub numbersOf : Step → List ℕ
+numbersOf s =
+    elim s [ R k u ↦ k .0 ∷ u .0 ∷ [] | N k u ↦ k .0 ∷ u .0 ∷ [] | P k ↦ k .0 ∷ [] | I k ↦ k .0 ∷ [] | C k ↦ k .0 ∷ [] | L k ↦ k .0 ∷ [] ]
 
 abbrev pub stepBytes : Step → List ℕ
-stepBytes (R k u) = lettered2 letterR (k .0) (u .0)
-stepBytes (N k u) = lettered2 letterN (k .0) (u .0)
-stepBytes (P k) = lettered letterP (k .0)
-stepBytes (I k) = lettered letterI (k .0)
-stepBytes (C k) = lettered letterC (k .0)
-stepBytes (L k) = lettered letterL (k .0)
+stepBytes s = letterOf s ∷ fields (numbersOf s)
 
 -- the header with its letter, T in a script and E in the output
 abbrev pub headerBytes : ℕ → Counts → Ticket → List ℕ
-headerBytes letter c n = letter ∷ tabbed (c .cores) ++ (tabbed (c .first) ++ (tabbed (c .second) ++ (tabbed (n .0) ++ (end ∷ []))))
+headerBytes letter c n = letter ∷ fields (c .cores ∷ c .first ∷ c .second ∷ n .0 ∷ [])
 
 -- the header: 20 before 23
 abbrev pub wroteHeader : List ℕ → ℕ → ℕ → Counts → Ticket → Written
@@ -40,3 +38,10 @@ wroteHeader out at letter c n = cond (inRange c) (wrote out at (headerBytes lett
 
 abbrev pub leftHeader : List ℕ → ℕ → ℕ → Counts → Ticket → List ℕ
 leftHeader out at letter c n = cond (inRange c) (left out at (headerBytes letter c n)) out
+
+-- as the code puts them: a letter and one number, or two
+abbrev pub lettered : ℕ → ℕ → List ℕ
+lettered letter k = letter ∷ fields (k ∷ [])
+
+abbrev pub lettered2 : ℕ → ℕ → ℕ → List ℕ
+lettered2 letter k u = letter ∷ fields (k ∷ u ∷ [])

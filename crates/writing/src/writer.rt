@@ -12,11 +12,13 @@ use ticket::CoreNo;
 use ticket::Ticket;
 use ticket::UnitNo;
 ghost use mathlib.Core.Path.{_≡_};
+ghost use mathlib.Core.Bool.{true};
 ghost use Prim.Native.Nat.{_+_, _≤_};
 ghost use lib.ListN.{length};
+ghost use Rattle.parts.specs.Range.{inRange};
 ghost use Rattle.lines.specs.Bytes.{letterT, letterE};
 ghost use Rattle.digits.specs.Text.{Puts};
-ghost use Rattle.digits.specs.Room.{wrote, left};
+ghost use Rattle.digits.specs.Room.{wrote, left, writtenNumber, writeNumber};
 ghost use Rattle.writing.specs.Writing.{lettered, lettered2, stepBytes, headerBytes, wroteHeader, leftHeader};
 
 // The line of a letter and one number, where there is room.
@@ -102,21 +104,21 @@ fn write_headed(out: &mut [u8], at: usize, letter: u8, counts: Counts, counter: 
 
 // A script's first line.
 pub fn write_header(out: &mut [u8], at: usize, counts: Counts, counter: Ticket) -> Written
-    ensures { λ r. ⌜ (r ≡ wroteHeader (now (out .entry)) at letterT counts counter) × (now (out .exit) ≡ leftHeader (now (out .entry)) at letterT counts counter) ⌝ }
+    ensures { λ r. ⌜ (r ≡ wroteHeader (now (out .entry)) at letterT counts counter) × (now (out .exit) ≡ leftHeader (now (out .entry)) at letterT counts counter) × (writtenNumber r ≡ writeNumber (inRange counts) (now (out .entry)) at (headerBytes letterT counts counter)) ⌝ }
 {
     write_headed(out, at, b'T', counts, counter)
 }
 
 // The output's first line.
 pub fn write_opening(out: &mut [u8], at: usize, counts: Counts, counter: Ticket) -> Written
-    ensures { λ r. ⌜ (r ≡ wroteHeader (now (out .entry)) at letterE counts counter) × (now (out .exit) ≡ leftHeader (now (out .entry)) at letterE counts counter) ⌝ }
+    ensures { λ r. ⌜ (r ≡ wroteHeader (now (out .entry)) at letterE counts counter) × (now (out .exit) ≡ leftHeader (now (out .entry)) at letterE counts counter) × (writtenNumber r ≡ writeNumber (inRange counts) (now (out .entry)) at (headerBytes letterE counts counter)) ⌝ }
 {
     write_headed(out, at, b'E', counts, counter)
 }
 
 // A step line of a script.
 pub fn write_step(out: &mut [u8], at: usize, s: Step) -> Written
-    ensures { λ r. ⌜ (r ≡ wrote (now (out .entry)) at (stepBytes s)) × (now (out .exit) ≡ left (now (out .entry)) at (stepBytes s)) ⌝ }
+    ensures { λ r. ⌜ (r ≡ wrote (now (out .entry)) at (stepBytes s)) × (now (out .exit) ≡ left (now (out .entry)) at (stepBytes s)) × (writtenNumber r ≡ writeNumber true (now (out .entry)) at (stepBytes s)) ⌝ }
 {
     match s {
         Step::R(k, u) => write_lettered2(out, at, b'R', k, u),

@@ -3,14 +3,14 @@ use Prim.Native.Nat.{ℕ}
 use mathlib.Core.Path.{_≡_, sym, ap}
 use borrow.Author.Needs.{needs}
 use Rattle.ticket.specs.Kinds.{ticket}
-use Rattle.headers.specs.Header.{counts, withCounter}
+use Rattle.headers.specs.Header.{withCounter}
 use Rattle.numbers.specs.declared.number.Field.{Field}
 use Rattle.numbers.specs.declared.number.Field.the-variants.{Last}
 use Rattle.headers.specs.declared.reading.ParsedHeader.the-variants.{Good}
 use Rattle.headers.proofs.reading.with_counter.Statement.{statement}
 use Rattle.headers.proofs.reading.with_counter.Tie as tie
 
-last : (a b c n : ℕ) (f : Field) → f ≡ Last n → Good (counts a b c) (ticket n) ≡ withCounter a b c f
+last : (a b c n : ℕ) (f : Field) → f ≡ Last n → Good (record { cores = a; first = b; second = c }) (ticket n) ≡ withCounter a b c f
 last a b c n f e = ap (withCounter a b c) (sym e)
 
 enum-told : tie.Need-enum-told

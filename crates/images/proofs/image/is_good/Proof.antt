@@ -2,20 +2,21 @@
 use borrow.Author.Needs.{needs}
 use Prim.Native.Nat.{ℕ}
 use mathlib.Core.Bool.{true, false}
-use mathlib.Core.Path.{_≡_, sym, _∙_, ap}
+use mathlib.Core.Path.{_≡_, sym, _∙_}
 use Rattle.parts.specs.declared.kinds.Register.{Register}
 use Rattle.words.specs.Word.{unpack, isGood}
 use Rattle.words.specs.declared.word.Unpacked.{Unpacked}
 use Rattle.words.specs.declared.word.Unpacked.the-variants.{Register as Shown, Refused as Bad}
+use Rattle.words.proofs.ReadsBack.{shown-good, refused-bad}
 use Rattle.images.proofs.image.is_good.Statement.{statement}
 use Rattle.images.proofs.image.is_good.Tie as tie
 
 module _ (w : ℕ) (x : Unpacked) (is : x ≡ unpack w) where
-  good : (r : Register) → x ≡ Shown r → true ≡ isGood (unpack w)
-  good r e = ap isGood (sym e ∙ is)
+  good : (r : Register) → x ≡ Shown r → true ≡ isGood w
+  good r e = sym (shown-good w r (sym is ∙ e))
 
-  bad : x ≡ Bad → false ≡ isGood (unpack w)
-  bad e = ap isGood (sym e ∙ is)
+  bad : x ≡ Bad → false ≡ isGood w
+  bad e = sym (refused-bad w (sym is ∙ e))
 
 unpack-requires : tie.Need-unpack-requires
 unpack-requires c κs = search needs

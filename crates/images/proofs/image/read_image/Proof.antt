@@ -3,16 +3,24 @@ use borrow.Author.Needs.{needs}
 use Prim.Native.Nat.{ℕ}
 use mathlib.Core.Bool.{Bool, true, false, not}
 use mathlib.Core.List.{List}
-use mathlib.Core.Path.{_≡_, sym, _∙_}
+use mathlib.Core.Path.{_≡_, sym, _∙_, ap}
 use Rattle.parts.specs.Range.{inRange}
 use Rattle.parts.specs.declared.kinds.Counts.{Counts}
 use Rattle.parts.specs.declared.kinds.LockUnit.{LockUnit}
-use Rattle.images.specs.Image.{emptyUnits, goodImage, unitsOf, readImage}
+use Rattle.images.specs.Image.{emptyUnits, goodImage, unitsOf, readImage, imageNumber, dueNumber}
 use Rattle.images.specs.declared.image.Image.{Image}
 use Rattle.images.specs.declared.image.ImageAnswer.the-variants.{Done, OutOfRange, BadImage}
 use Rattle.images.proofs.Good.{in-range, not-in-range}
+use Rattle.images.proofs.Numbers.{read-number}
 use Rattle.images.proofs.image.read_image.Statement.{statement}
 use Rattle.images.proofs.image.read_image.Tie as tie
+
+-- the answer, and with it its number
+numbered :
+    (c : Counts) (ws : List ℕ) (x : Image) →
+    x ≡ readImage c ws →
+    (x ≡ readImage c ws) × (imageNumber (x .answer) ≡ dueNumber c (goodImage c ws))
+numbered c ws x is = (is, ap (λ (y : Image). imageNumber (y .answer)) is ∙ read-number c ws)
 
 module _ (c : Counts) (ws : List ℕ) (b : Bool) (xs : List LockUnit) (says : b ≡ inRange c) where
   outside : not b ≡ true → xs ≡ emptyUnits → _≡_ {A = Image} (record { units = xs; answer = OutOfRange }) (readImage c ws)
@@ -35,7 +43,9 @@ empty-units-requires : tie.Need-empty-units-requires
 empty-units-requires c κs = search needs
 
 returns : tie.Need-returns
-returns c = search outside
+returns c =
+    let a = c .before .before .before .before .args in
+    numbered (a .c) (a .words .now) _ (search outside)
 
 good-image-requires : tie.Need-good-image-requires
 good-image-requires c κs = search needs
@@ -47,10 +57,14 @@ empty-units-requires-2 : tie.Need-empty-units-requires-2
 empty-units-requires-2 c κs = search needs
 
 returns-2 : tie.Need-returns-2
-returns-2 c = search done
+returns-2 c =
+    let a = c .before .before .before .before .before .before .args in
+    numbered (a .c) (a .words .now) _ (search done)
 
 returns-3 : tie.Need-returns-3
-returns-3 c = search bad
+returns-3 c =
+    let a = c .before .before .before .before .before .before .args in
+    numbered (a .c) (a .words .now) _ (search bad)
 
 pub read-image-spec : {M : Type 1} → statement M
 read-image-spec =

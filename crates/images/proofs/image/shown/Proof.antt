@@ -2,13 +2,13 @@
 use borrow.Author.Needs.{needs}
 use Prim.Native.Nat.{ℕ}
 use mathlib.Core.Bool.{true}
-use mathlib.Core.Path.{_≡_, sym, _∙_, ap}
+use mathlib.Core.Path.{_≡_, sym, _∙_}
 use Rattle.parts.specs.declared.kinds.Register.{Register}
 use Rattle.parts.proofs.Bools.{clash}
 use Rattle.words.specs.Word.{registerOf, unpack, isGood}
 use Rattle.words.specs.declared.word.Unpacked.{Unpacked}
 use Rattle.words.specs.declared.word.Unpacked.the-variants.{Register as Shown, Refused as Bad}
-use Rattle.words.proofs.ReadsBack.{shown-own}
+use Rattle.words.proofs.ReadsBack.{refused-bad, shown-own}
 use Rattle.images.proofs.image.shown.Statement.{statement}
 use Rattle.images.proofs.image.shown.Tie as tie
 
@@ -16,8 +16,8 @@ module _ (w : ℕ) (x : Unpacked) (is : x ≡ unpack w) where
   own : (r : Register) → x ≡ Shown r → r ≡ registerOf w
   own r e = shown-own w r (sym is ∙ e)
 
-  none : (r : Register) → x ≡ Bad → isGood (unpack w) ≡ true → r ≡ registerOf w
-  none r e good = absurd (clash good (ap isGood (sym is ∙ e)))
+  none : (r : Register) → x ≡ Bad → isGood w ≡ true → r ≡ registerOf w
+  none r e good = absurd (clash good (refused-bad w (sym is ∙ e)))
 
 unpack-requires : tie.Need-unpack-requires
 unpack-requires c κs = search needs

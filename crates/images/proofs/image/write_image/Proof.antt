@@ -4,31 +4,42 @@ use borrow.Author.Needs.{needs}
 use Prim.Native.Nat.{ℕ}
 use mathlib.Core.Bool.{Bool, true, false, not}
 use mathlib.Core.List.{List}
-use mathlib.Core.Path.{_≡_, sym, _∙_}
+use mathlib.Core.Path.{_≡_, sym, _∙_, ap}
 use lib.ListN.{length}
 use Rattle.parts.specs.Range.{inRange}
 use Rattle.parts.specs.declared.kinds.Counts.{Counts}
 use Rattle.parts.specs.declared.kinds.LockUnit.{LockUnit}
-use Rattle.images.specs.Image.{writable, wordsInto, writeAnswer, writeLeft}
+use Rattle.images.specs.Image.{writable, wordsInto, writeAnswer, writeLeft, imageNumber, dueNumber}
+use Rattle.images.specs.declared.image.ImageAnswer.{ImageAnswer}
 use Rattle.images.specs.declared.image.ImageAnswer.the-variants.{Done, OutOfRange, BadImage}
 use Rattle.images.proofs.Good.{in-range, not-in-range}
+use Rattle.images.proofs.Numbers.{write-number}
 use Rattle.images.proofs.image.write_image.Statement.{statement}
 use Rattle.images.proofs.image.write_image.Tie as tie
 
+module _ (c : Counts) (xs : List LockUnit) (out : List ℕ) where
+  -- the answer, what the room holds, and the answer's number
+  abbrev Leaves : ImageAnswer → List ℕ → Type 0
+  Leaves x o =
+      (x ≡ writeAnswer c xs (length out))
+      × (o ≡ writeLeft c xs out)
+      × (imageNumber x ≡ dueNumber c (writable c xs (length out)))
+
+  numbered : (x : ImageAnswer) (o : List ℕ) → x ≡ writeAnswer c xs (length out) → o ≡ writeLeft c xs out → Leaves x o
+  numbered x o is left = (is, left, ap imageNumber is ∙ write-number c xs (length out))
+
 module _ (c : Counts) (xs : List LockUnit) (out : List ℕ) (b : Bool) (says : b ≡ inRange c) where
-  outside : not b ≡ true → (OutOfRange ≡ writeAnswer c xs (length out)) × (out ≡ writeLeft c xs out)
-  outside e = let q = not-in-range c b says e in (rw q, rw q)
+  outside : not b ≡ true → Leaves c xs out OutOfRange out
+  outside e = let q = not-in-range c b says e in numbered c xs out OutOfRange out (rw q) (rw q)
 
   module _ (g : Bool) (e : not b ≡ false) (judged : g ≡ writable c xs (length out)) where
-    done :
-        (o : List ℕ) →
-        g ≡ true →
-        o ≡ wordsInto c xs out →
-        (Done ≡ writeAnswer c xs (length out)) × (o ≡ writeLeft c xs out)
-    done o d is = let q = in-range c b says e in (rw (q, sym judged ∙ d), rw (q, sym judged ∙ d) is)
+    done : (o : List ℕ) → g ≡ true → o ≡ wordsInto c xs out → Leaves c xs out Done o
+    done o d is =
+        let q = in-range c b says e in
+        numbered c xs out Done o (rw (q, sym judged ∙ d)) (rw (q, sym judged ∙ d) is)
 
-    bad : g ≡ false → (BadImage ≡ writeAnswer c xs (length out)) × (out ≡ writeLeft c xs out)
-    bad d = let q = in-range c b says e in (rw (q, sym judged ∙ d), rw (q, sym judged ∙ d))
+    bad : g ≡ false → Leaves c xs out BadImage out
+    bad d = let q = in-range c b says e in numbered c xs out BadImage out (rw (q, sym judged ∙ d)) (rw (q, sym judged ∙ d))
 
 able : (c : Counts) (xs : List LockUnit) (out : List ℕ) (g : Bool) → g ≡ writable c xs (length out) → g ≡ true → writable c xs (length out) ≡ true
 able c xs out g judged d = sym judged ∙ d

@@ -5,7 +5,7 @@ use native.Mathlib.Omega.{arith}
 use borrow.Author.Tests.{ne-eqb}
 use Rattle.parts.specs.Parts.{coreNo}
 use Rattle.parts.specs.declared.answer.Step.the-variants.{P, I, C, L}
-use Rattle.lines.specs.Bytes.{letterP, letterI, letterC, letterL}
+use Rattle.lines.proofs.Letters.{letterP, letterI, letterC, letterL}
 use Rattle.lines.specs.Reading.{oneNumber}
 use Rattle.lines.specs.declared.reading.Parsed.the-variants.{Good, Not}
 use Rattle.lines.proofs.reading.one_number.Statement.{statement}

@@ -7,7 +7,7 @@ use borrow.Author.Tests.{le-leb}
 use borrow.Author.Needs.{needs}
 use Rattle.ticket.specs.declared.kinds.CoreNo.{CoreNo}
 use Rattle.ticket.specs.declared.kinds.UnitNo.{UnitNo}
-use Rattle.lines.specs.Reading.{oneNumber, twoNumbers, stepLine, readStep}
+use Rattle.lines.specs.Reading.{oneNumber, twoNumbers, stepLine, readStep, stepLineNumber, stepNumber}
 use Rattle.lines.specs.ShortLine.{shortLine}
 use Rattle.lines.specs.declared.reading.Parsed.{Parsed}
 use Rattle.lines.specs.declared.reading.Short.{Short}
@@ -15,10 +15,15 @@ use Rattle.lines.specs.declared.reading.Short.the-variants.{One, Two}
 use Rattle.lines.specs.declared.reading.StepLine.{StepLine}
 use Rattle.lines.specs.declared.reading.StepLine.the-variants.{Finished}
 use Rattle.lines.proofs.Shortly.{short-one, short-two}
+use Rattle.lines.proofs.Numbers.{step-number}
 use Rattle.lines.proofs.reading.step_line_at.Statement.{statement}
 use Rattle.lines.proofs.reading.step_line_at.Tie as tie
 
 module _ (s : List ℕ) (at : ℕ) where
+  -- the answer, and with it its number
+  numbered : (r : StepLine) → r ≡ readStep s at → (r ≡ readStep s at) × (stepLineNumber r ≡ stepNumber s at)
+  numbered r is = (is, ap stepLineNumber is ∙ step-number s at)
+
   past : length s ≤ at → Finished ≡ readStep s at
   past h = rw (le-leb (length s) at h)
 
@@ -30,7 +35,9 @@ module _ (s : List ℕ) (at : ℕ) where
     two l k u e is so = so ∙ ap (λ (q : Parsed). stepLine q (at + 6)) is ∙ sym (short-two s at l k u (sym says ∙ e))
 
 returns : tie.Need-returns
-returns c = search (past, needs)
+returns c =
+    let a = c .before .before .args in
+    numbered (a .s .now) (a .at) _ (search (past, needs))
 
 short-line-requires : tie.Need-short-line-requires
 short-line-requires c κs = search needs
@@ -66,13 +73,19 @@ any-line-requires : tie.Need-any-line-requires
 any-line-requires c κs = search needs
 
 returns-2 : tie.Need-returns-2
-returns-2 c = search one
+returns-2 c =
+    let a = c .before .before .before .before .before .before .before .before .args in
+    numbered (a .s .now) (a .at) _ (search one)
 
 returns-3 : tie.Need-returns-3
-returns-3 c = search two
+returns-3 c =
+    let a = c .before .before .before .before .before .before .before .before .args in
+    numbered (a .s .now) (a .at) _ (search two)
 
 returns-4 : tie.Need-returns-4
-returns-4 c = search needs
+returns-4 c =
+    let a = c .before .before .before .before .before .before .args in
+    numbered (a .s .now) (a .at) _ (search needs)
 
 pub step-line-at-spec : {M : Type 1} → statement M
 step-line-at-spec =

@@ -33,7 +33,7 @@ use denote.Triple.Spec.{Meets, tripleOf}
 use denote.Triple.Table.{entered, cited}
 use denote.Triple.Walked.{says, Stays, stay-none, stay-none-slice, walkOf, goes-none, goes-none-slice, ends-at, walked, walk-meets}
 use denote.Exit.{yes}
-use Rattle.headers.specs.Header.{readHeader}
+use Rattle.headers.specs.Header.{readHeader, headerLineNumber, headerNumber}
 use Rattle.script.specs.Script.{opened}
 use Rattle.headers.specs.declared.reading.HeaderLine.{HeaderLine}
 use Rattle.script.specs.declared.reader.ScriptReader.{ScriptReader}
@@ -71,8 +71,9 @@ module _ {M : Type 1} (𝓤 : URA M) (H : Heap 𝓤) (A : Atoms 𝓤) (W : Given
   abbrev αᵉ : NamedLft
   αᵉ = record { mir = erased; lft = κ }
 
-  abbrev found : HeaderLine
-  found = readHeader (now s) n
+  -- what `header` promises
+  abbrev Found : HeaderLine → Type 0
+  Found t = (t ≡ readHeader (now s) n) × (headerLineNumber t ≡ headerNumber (now s) n)
 
   abbrev Post : Val → SProp 𝓤
   Post = walkOf 𝓤 H A reads.ended stayed (reads.clauses 𝓤 H A mem run) .post (to-open 𝓤 H A W mem run κ q s n)
@@ -80,10 +81,10 @@ module _ {M : Type 1} (𝓤 : URA M) (H : Heap 𝓤) (A : Atoms 𝓤) (W : Given
   abbrev to-header : Val → OfHeader 𝓤 H A mem run .Ghost
   to-header u = (((κ, tt), (q, tt), tt, (d, tt), (u ∷ [], tt)), tt)
 
-  told : (t : HeaderLine) → ent 𝓤 (ensured 𝓤 H A header.ended (header.clauses 𝓤 H A mem run) (κ, tt) (d, tt) tt t) (fact 𝓤 (t ≡ found))
-  told t = exE 𝓤 _ (λ ws. snd∗ 𝓤 (sem 𝓤 H A (lasts header.ended (κ, tt) (d, tt) ws)) (fact 𝓤 (t ≡ found)))
+  told : (t : HeaderLine) → ent 𝓤 (ensured 𝓤 H A header.ended (header.clauses 𝓤 H A mem run) (κ, tt) (d, tt) tt t) (fact 𝓤 (Found t))
+  told t = exE 𝓤 _ (λ ws. snd∗ 𝓤 (sem 𝓤 H A (lasts header.ended (κ, tt) (d, tt) ws)) (fact 𝓤 (Found t)))
 
-  exits : (t : HeaderLine) (u : Val) → t ≡ found → ent 𝓤 (⋆ 𝓤 H A (‵ (S.the-row .own t (u ∷ [])) ∷ (‵ (flft κ q) ⊛ ‵ ftrue) ∷ ‵ (Slice 𝓤 H A W mem run κ q s n) ∷ [])) (Post u)
+  exits : (t : HeaderLine) (u : Val) → Found t → ent 𝓤 (⋆ 𝓤 H A (‵ (S.the-row .own t (u ∷ [])) ∷ (‵ (flft κ q) ⊛ ‵ ftrue) ∷ ‵ (Slice 𝓤 H A W mem run κ q s n) ∷ [])) (Post u)
   exits t u e =
       qed W (‵ (S.the-row .own t (u ∷ [])) ∷ (‵ (flft κ q) ⊛ ‵ ftrue) ∷ ‵ (Slice 𝓤 H A W mem run κ q s n) ∷ []) ∵
       suffices ! _ (ends-at 𝓤 H A reads.ended stayed (reads.clauses 𝓤 H A mem run) W (to-open 𝓤 H A W mem run κ q s n) u t (tt, (tt, tt)) (tt, (tt, tt))) $ says ! e $ move ! (1 ∷ []) $ frame ! $
@@ -106,7 +107,7 @@ module _ {M : Type 1} (𝓤 : URA M) (H : Heap 𝓤) (A : Atoms 𝓤) (W : Given
       use2 W (raw (OfHeader 𝓤 H A mem run .pre (to-header u))) (goes-on 𝓤 H A W mem run κ q s n d u) $
       calls-at ! fm (OfHeader 𝓤 H A mem run) known (to-header u) (and-then ! (load ! (from ! (stop !)) (look ! 2 refl)) (no-more !)) (λ w.
       use1 W (later (some (λ (t : HeaderLine). ((‵ (flft κ q) ⊛ ‵ ftrue) ⊛ ‵ (S.the-row .own t (w ∷ []))) ⊛ raw (ensured 𝓤 H A header.ended (header.clauses 𝓤 H A mem run) (κ, tt) (d, tt) tt t)))) (id⊢ 𝓤 _) $ await ! tt $ pick ! (λ t.
-      split ! $ move ! (1 ∷ []) $ use1 W (raw (fact 𝓤 (t ≡ found))) (told t) $ heard ! (t ≡ found) (λ e′. split ! $ move ! (1 ∷ []) $
+      split ! $ move ! (1 ∷ []) $ use1 W (raw (fact 𝓤 (Found t))) (told t) $ heard ! (Found t) (λ e′. split ! $ move ! (1 ∷ []) $
       -- [the answer; the token; what the slice owns; _3; …; _2; …; _1; …; room for _0; …]
       peeks ! S.the-row (Is S.the-row) (shows 𝓤 H A S.the-row) t (w ∷ []) (λ is′. land ! (from ! (stop !)) (init ! 9 refl (EL.lawful S.the-type S′.the-laws 𝓤 H A W tt .typed t _ is′ .0)) $
       returns ! (look ! 9 refl) $ forget ! 3 refl $ forget ! 5 refl $ forget ! 7 refl $ forget ! 9 refl $

@@ -36,12 +36,13 @@ use denote.Triple.Spec.{Meets, tripleOf}
 use denote.Triple.Table.{entered, cited}
 use denote.Triple.Walked.{says, Stays, stay-none, stay-none-slice, walkOf, goes-none, goes-none-slice, ends-at, walked, walk-meets}
 use denote.Exit.{yes}
-use Rattle.lines.specs.Reading.{readStep}
+use Rattle.lines.specs.Reading.{readStep, stepLineNumber, stepNumber}
 use Rattle.script.specs.Script.{opened, readOn}
 use Rattle.lines.specs.declared.reading.StepLine.{StepLine}
 use Rattle.script.specs.declared.reader.ScriptReader.{ScriptReader}
 use Rattle.script.specs.declared.reader.ReadOn.{ReadOn}
 use Rattle.script.proofs.Walks.{B, spelled, Open, plainly, to-open, Slice, goes-open, said-open, goes-on}
+use Rattle.lines.proofs.Numbers.{step-number}
 use Rattle.lines.proofs.reading.StepLine as S
 use Rattle.lines.proofs.reading.StepLine.Laws as S′
 use Rattle.script.proofs.reader.ScriptReader as T
@@ -92,8 +93,12 @@ module _ {M : Type 1} (𝓤 : URA M) (H : Heap 𝓤) (A : Atoms 𝓤) (W : Given
   abbrev to-next : Val → Next 𝓤 H A mem run .Ghost
   to-next u = (((κ, tt), (q, tt), tt, (d, tt), (u ∷ [], tt)), tt)
 
-  told : (r : ReadOn) → ent 𝓤 (ensured 𝓤 H A next.ended (next.clauses 𝓤 H A mem run) (κ, tt) (d, tt) tt r) (fact 𝓤 (r ≡ readOn d))
-  told r = exE 𝓤 _ (λ ws. snd∗ 𝓤 (sem 𝓤 H A (lasts next.ended (κ, tt) (d, tt) ws)) (fact 𝓤 (r ≡ readOn d)))
+  -- what `next` promises
+  abbrev Found : ReadOn → Type 0
+  Found r = (r ≡ readOn d) × (stepLineNumber (r .line) ≡ stepNumber (now s) n)
+
+  told : (r : ReadOn) → ent 𝓤 (ensured 𝓤 H A next.ended (next.clauses 𝓤 H A mem run) (κ, tt) (d, tt) tt r) (fact 𝓤 (Found r))
+  told r = exE 𝓤 _ (λ ws. snd∗ 𝓤 (sem 𝓤 H A (lasts next.ended (κ, tt) (d, tt) ws)) (fact 𝓤 (Found r)))
 
   -- what is known of the line in what `next` gives
   line-is : (w : Val) → Is (O.the-row α) (readOn d) (w ∷ []) → Is S.the-row line (lined ∷ [])
@@ -102,7 +107,7 @@ module _ {M : Type 1} (𝓤 : URA M) (H : Heap 𝓤) (A : Atoms 𝓤) (W : Given
   exits : Is S.the-row line (lined ∷ []) → ent 𝓤 (⋆ 𝓤 H A ((‵ (flft κ q) ⊛ ‵ ftrue) ∷ ‵ (Slice 𝓤 H A W mem run κ q s n) ∷ [])) (Post lined)
   exits is =
       qed W ((‵ (flft κ q) ⊛ ‵ ftrue) ∷ ‵ (Slice 𝓤 H A W mem run κ q s n) ∷ []) ∵
-      suffices ! _ (ends-at 𝓤 H A reads.ended stayed (reads.clauses 𝓤 H A mem run) W (to-open 𝓤 H A W mem run κ q s n) lined line (tt, (tt, tt)) (tt, (tt, tt))) $ says ! refl $ frame ! $
+      suffices ! _ (ends-at 𝓤 H A reads.ended stayed (reads.clauses 𝓤 H A mem run) W (to-open 𝓤 H A W mem run κ q s n) lined line (tt, (tt, tt)) (tt, (tt, tt))) $ says ! (refl, step-number (now s) n) $ frame ! $
       nothing ! $ owned ! usize (Is usize) (uint-makes 𝓤 H A W w64) n _ (refl, fits) $ fjoin ! $ move ! (1 ∷ 0 ∷ []) $ fjoin ! $ frame ! $
       owned ! S.the-row (Is S.the-row) (EL.makes S.the-type S′.the-plain 𝓤 H A) line _ is $ done !
 
@@ -123,7 +128,7 @@ module _ {M : Type 1} (𝓤 : URA M) (H : Heap 𝓤) (A : Atoms 𝓤) (W : Given
       use2 W (raw (Next 𝓤 H A mem run .pre (to-next u))) (goes-on 𝓤 H A W mem run κ q s n d u) $
       calls-at ! fm (Next 𝓤 H A mem run) known (to-next u) (and-then ! (load ! (from ! (stop !)) (look ! 2 refl)) (no-more !)) (λ w.
       use1 W (later (some (λ (t : ReadOn). ((‵ (flft κ q) ⊛ ‵ ftrue) ⊛ ‵ (O.the-row α .own t (w ∷ []))) ⊛ raw (ensured 𝓤 H A next.ended (next.clauses 𝓤 H A mem run) (κ, tt) (d, tt) tt t)))) (id⊢ 𝓤 _) $ await ! tt $ pick ! (λ t.
-      split ! $ move ! (1 ∷ []) $ use1 W (raw (fact 𝓤 (t ≡ readOn d))) (told t) $ heard ! (t ≡ readOn d) (λ e′. split ! $ move ! (1 ∷ []) $ rewrite ! 0 (λ (z : ReadOn). ‵ (O.the-row α .own z (w ∷ []))) e′ refl $
+      split ! $ move ! (1 ∷ []) $ use1 W (raw (fact 𝓤 (Found t))) (told t) $ heard ! (Found t) (λ e′. split ! $ move ! (1 ∷ []) $ rewrite ! 0 (λ (z : ReadOn). ‵ (O.the-row α .own z (w ∷ []))) (e′ .0) refl $
       facts ! (O.the-row α) (Is (O.the-row α)) (shows 𝓤 H A (O.the-row α)) (readOn d) (w ∷ []) (λ is′.
       -- [the token; what the slice owns; _4; …; room for _3; …; _2; …; _1; …; room for _0; …]
       land ! (from ! (stop !)) (init ! 4 refl (LL.lawful (O.the-type αᵉ) (O′.the-laws αᵉ) 𝓤 H A W .typed (readOn d) _ is′ .0)) $

@@ -2,7 +2,7 @@
 use mathlib.Core.Path.{ap}
 use borrow.Author.Needs.{needs}
 use Rattle.building.specs.declared.building.Built.{Built}
-use Rattle.calls.specs.Call.{runAt}
+use Rattle.calls.specs.Placed.{runAt}
 use Rattle.translate.proofs.call.fresh_run.Statement.{statement}
 use Rattle.translate.proofs.call.fresh_run.Tie as tie
 

@@ -53,7 +53,7 @@ returns c =
     let o = c .before .before .before .before .before .before .before .before .before .before .write-opening in
     let w = c .before .before .before .before .before .before .w .given in
     let q = c .before .before .before .before .fresh-run in
-    opened-by (a .args .run) (a .args .script .now) (a .args .out .now) (a .pre) (h .result) (h .ensures) (g .0 .0) (g .0 .1 .0) (g .0 .1 .1 .0) (g .1) (o .result) _ (o .ensures) (w .0 .0) (q .result) _ _ (w .1) (q .ensures) (c .before .before .step-lines .ensures)
+    opened-by (a .args .run) (a .args .script .now) (a .args .out .now) (a .pre) (h .result) (h .ensures .0) (g .0 .0) (g .0 .1 .0) (g .0 .1 .1 .0) (g .1) (o .result) _ (o .ensures .0, o .ensures .1) (w .0 .0) (q .result) _ _ (w .1) (q .ensures) (c .before .before .step-lines .ensures)
 
 same-length-2 : tie.Need-same-length-2
 same-length-2 c = search needs
@@ -64,7 +64,7 @@ returns-2 c =
     let h = c .before .before .before .before .before .before .before .before .before .read-header in
     let g = c .before .before .before .before .before .before .before .counts .given in
     let o = c .before .before .before .before .write-opening in
-    absurd (out-of-range (a .args .run) (a .args .script .now) (a .args .out .now) (a .pre) (h .result) (h .ensures) (g .0 .0) (g .0 .1 .0) (g .0 .1 .1 .0) (g .1) (o .result) _ (o .ensures) (c .enum-told .given .1))
+    absurd (out-of-range (a .args .run) (a .args .script .now) (a .args .out .now) (a .pre) (h .result) (h .ensures .0) (g .0 .0) (g .0 .1 .0) (g .0 .1 .1 .0) (g .1) (o .result) _ (o .ensures .0, o .ensures .1) (c .enum-told .given .1))
 
 same-length-3 : tie.Need-same-length-3
 same-length-3 c = search needs
@@ -75,19 +75,19 @@ returns-3 c =
     let h = c .before .before .before .before .before .before .before .before .before .read-header in
     let g = c .before .before .before .before .before .before .before .counts .given in
     let o = c .before .before .before .before .write-opening in
-    no-room-opening (a .args .run) (a .args .script .now) (a .args .out .now) (a .pre) (h .result) (h .ensures) (g .0 .0) (g .0 .1 .0) (g .0 .1 .1 .0) (g .1) (o .result) _ (o .ensures) (c .enum-told2 .given .1)
+    no-room-opening (a .args .run) (a .args .script .now) (a .args .out .now) (a .pre) (h .result) (h .ensures .0) (g .0 .0) (g .0 .1 .0) (g .0 .1 .1 .0) (g .1) (o .result) _ (o .ensures .0, o .ensures .1) (c .enum-told2 .given .1)
 
 returns-4 : tie.Need-returns-4
 returns-4 c =
     let a = c .before .before .before .before .before in
     let h = c .before .before .read-header in
-    no-header (a .args .run) (a .args .script .now) (a .args .out .now) (a .pre) (h .result) (h .ensures) (c .enum-told3 .given .1)
+    no-header (a .args .run) (a .args .script .now) (a .args .out .now) (a .pre) (h .result) (h .ensures .0) (c .enum-told3 .given .1)
 
 returns-5 : tie.Need-returns-5
 returns-5 c =
     let a = c .before .before .before .before .before in
     let h = c .before .before .read-header in
-    cut-header (a .args .run) (a .args .script .now) (a .args .out .now) (a .pre) (h .result) (h .ensures) (c .enum-told4 .given .1)
+    cut-header (a .args .run) (a .args .script .now) (a .args .out .now) (a .pre) (h .result) (h .ensures .0) (c .enum-told4 .given .1)
 
 pub from-header-spec : {M : Type 1} → statement M
 from-header-spec =

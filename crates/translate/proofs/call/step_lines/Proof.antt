@@ -19,16 +19,16 @@ use Rattle.block.proofs.InPlace.{core-in, unit-in, other-in, counted, in-place}
 use Rattle.expected.specs.Expected.{expectedBytes}
 use Rattle.digits.specs.declared.room.Written.the-variants.{Next, NoRoom}
 use Rattle.digits.proofs.Pasting.{kept, written, roomy, refused}
-use Rattle.calls.specs.Call.{runAt, translated, call}
-use Rattle.calls.proofs.Fuel.{read-within}
+use Rattle.calls.specs.Call.{call}
+use Rattle.calls.specs.Placed.{runAt}
+use Rattle.calls.proofs.Within.{read-within}
 use Rattle.translate.proofs.Turning.{Working, working, stops, answers, no-room, begins, stays-sound, stays-shaped}
 use Rattle.translate.proofs.call.step_lines.Statement.{statement}
 use Rattle.translate.proofs.call.step_lines.Tie as tie
 
 abbrev Inv-loop : tie.InvT-loop
 Inv-loop fit script out₀ at₀ table₀ out at table =
-    (translated (record { run = runAt (at₀ .place) (at₀ .wrote) table₀ (at₀ .steps); out = out₀ }) script
-    ≡ translated (record { run = runAt (at .place) (at .wrote) table (at .steps); out = out }) script)
+    (call (runAt (at₀ .place) (at₀ .wrote) table₀ (at₀ .steps)) script out₀ ≡ call (runAt (at .place) (at .wrote) table (at .steps)) script out)
     × (fit ≡ sound table)
     × Shaped table
     × (length out ≡ length out₀)
@@ -59,7 +59,7 @@ so-far :
     let a = c .before .before .before .before .args in
     let l = c .loop in
     call (a .run) (a .script .now) (a .out .now)
-    ≡ translated (record { run = runAt (l .at .place) (l .at .wrote) (l .table) (l .at .steps); out = l .out }) (a .script .now)
+    ≡ call (runAt (l .at .place) (l .at .wrote) (l .table) (l .at .steps)) (a .script .now) (l .out)
 so-far c =
     let s = c .before .before .before .before in
     let a = s .args in

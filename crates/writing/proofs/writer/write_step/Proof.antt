@@ -1,12 +1,14 @@
 -- `writing::writer::write_step` meets its contract: for each letter, the line of its numbers.
 use borrow.Author.Needs.{needs}
 use Prim.Native.Nat.{ℕ}
+use mathlib.Core.Bool.{true}
 use mathlib.Core.List.{List}
 use mathlib.Core.Path.{_≡_}
 use Rattle.parts.specs.declared.answer.Step.{Step}
-use Rattle.digits.specs.Room.{wrote, left}
+use Rattle.digits.specs.Room.{wrote, left, writtenNumber, writeNumber}
 use Rattle.writing.specs.Writing.{stepBytes}
 use Rattle.digits.specs.declared.room.Written.{Written}
+use Rattle.digits.proofs.Numbers.{numbered}
 use Rattle.writing.proofs.writer.write_step.Statement.{statement}
 use Rattle.writing.proofs.writer.write_step.Tie as tie
 
@@ -14,8 +16,8 @@ same :
     (o m : List ℕ) (at : ℕ) (s z : Step) (w : Written) →
     s ≡ z →
     (w ≡ wrote o at (stepBytes z)) × (m ≡ left o at (stepBytes z)) →
-    (w ≡ wrote o at (stepBytes s)) × (m ≡ left o at (stepBytes s))
-same o m at s z w e h = rw e h
+    (w ≡ wrote o at (stepBytes s)) × (m ≡ left o at (stepBytes s)) × (writtenNumber w ≡ writeNumber true o at (stepBytes s))
+same o m at s z w e h = rw e (numbered true o at (stepBytes z) h)
 
 enum-known-s : tie.Need-enum-known-s
 enum-known-s c = search needs

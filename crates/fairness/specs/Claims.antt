@@ -1,0 +1,43 @@
+-- Demand 3, claim by claim. The step s, from the place p, enters core k at unit u; onward p s is the place after its entry.
+use Prim.Native.Nat.{ℕ, _+_, _≤_, _<_}
+use mathlib.Core.Bool.{true, false}
+use mathlib.Core.List.{List}
+use mathlib.Core.Logic.{_⊎_}
+use mathlib.Core.Path.{_≡_}
+use Rattle.parts.specs.State.{stands, holds}
+use Rattle.parts.specs.Parts.{coreNo}
+use Rattle.block.specs.Table.{coreOf}
+use Rattle.parts.specs.Answer.{numberOf}
+use Rattle.block.specs.Steps.{step}
+use Rattle.parts.specs.declared.answer.Step.{Step}
+use Rattle.parts.specs.declared.answer.Step.the-variants.{P}
+use Rattle.fairness.specs.Run.{Place, Reached, onward, afterAll}
+use Rattle.fairness.specs.Stretch.{grants, gives, enters, leaves, stretch, earlier, passed, interruptions}
+
+-- "that unit goes only to tickets issued earlier": z is any later step of the stretch, and j whom it grants the unit
+abbrev pub NoOvertaking : Type 0
+NoOvertaking =
+    (p : Place) (s : Step) (k u : ℕ) (more : List Step) (z : Step) (j : ℕ) →
+    Reached p →
+    enters p s k u ≡ true →
+    stretch k u (onward p s) more ≡ true →
+    leaves k u (afterAll (onward p s) more) z ≡ false →
+    gives u j (grants (afterAll (onward p s) more) z) ≡ true →
+    onward (afterAll (onward p s) more) z .issue j < onward p s .issue k
+
+-- "at most as often as earlier tickets were live at its entry plus the interrupts accepted meanwhile from the cores that own them"
+abbrev pub Bound : Type 0
+Bound =
+    (p : Place) (s : Step) (k u : ℕ) (more : List Step) →
+    Reached p →
+    enters p s k u ≡ true →
+    stretch k u (onward p s) more ≡ true →
+    passed u (onward p s) more ≤ earlier (onward p s) k + interruptions (onward p s) k (onward p s) more
+
+-- "In every state reached where a core stands at a unit, some core holds all it asked for or would be granted at its next poll."
+abbrev pub NeverStuck : Type 0
+NeverStuck =
+    (p : Place) (k : ℕ) →
+    Reached p →
+    stands (coreOf (p .table) k .state) ≡ true →
+    (j : ℕ) × ((holds (coreOf (p .table) j .state) ≡ true) ⊎ (numberOf (step (p .table) (P (coreNo j)) .answer) ≡ 1))
