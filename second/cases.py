@@ -25,6 +25,18 @@ def script(bytes_, answer):
     add(b"T" + struct.pack("<H", len(bytes_)) + bytes_, answer + b"--\n")
 
 
+
+def lent(room, bytes_, number, columns):
+    """One call with so many bytes lent: the stop's number, and the lines that fit whole."""
+    wrote = 0
+    for line in columns.splitlines(keepends=True):
+        if wrote + len(line) > room:
+            number = 23
+            break
+        wrote += len(line)
+    add(b"B" + struct.pack("<HH", room, len(bytes_)) + bytes_, b"B\t%d\t%d\n" % (number, wrote))
+
+
 def register(ticket, valid, flag):
     return struct.pack("<HBB", ticket, valid, flag)
 
@@ -79,6 +91,12 @@ def line(letter, room, place, numbers, answer):
 
 
 script(text(RUN), text(COLUMNS))
+for room in (0, 13, 14, 15, len(text(COLUMNS)) - 1, len(text(COLUMNS)), 14 + 27 * 13):
+    lent(room, text(RUN), 0, text(COLUMNS))
+lent(100, b"T\t3\t1\t9\t0\n", 20, b"")
+lent(100, b"T\t1\t1\t0\t0\nR\t0\t0\nQ\t0\n", 21, b"E\t1\t1\t0\t0\n1\t0\t0\t1\t0\t0\n")
+lent(21, b"T\t1\t1\t0\t0\nR\t0\t0\nQ\t0\n", 21, b"E\t1\t1\t0\t0\n1\t0\t0\t1\t0\t0\n")
+lent(65535, b"T\t1\t1\t0\t0\nR\t0\t0\nP\t0", 22, b"E\t1\t1\t0\t0\n1\t0\t0\t1\t0\t0\n")
 script(b"", b"X\t22\n")
 script(b"T\t3\t1\t9\t0\n", b"X\t20\n")
 script(b"T\t1\t1\t0\t0\nR\t0\t0\nQ\t0\n", b"E\t1\t1\t0\t0\n1\t0\t0\t1\t0\t0\nX\t21\n")

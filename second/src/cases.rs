@@ -2,6 +2,8 @@
 //!
 //! A case is a letter and its payload, numbers little endian:
 //! - `T`: u16 length, script. Answer: the translator's bytes, then a line `--`.
+//! - `B`: u16 bytes lent, u16 length, script. Answer: `B`, the number that stops one
+//!   call with that room (0 where the script is finished), and the bytes written.
 //! - `S`: a table of 592 bytes (see `put_whole`). Answer: `S`, 1 if sound else 0.
 //! - `M`: a table as in `S`, u8 letter (0 R, 1 N, 2 P, 3 I, 4 C, from 5 on L), u16
 //!   core, u16 unit. Answer: `M`, answer, ticket, number of grants, unit and core
@@ -65,6 +67,34 @@ pub fn put_script(case: &mut Vec<u8>, script: &[u8]) {
         u16::try_from(script.len()).expect("script too long for a case"),
     );
     case.extend_from_slice(script);
+}
+
+/// One call with so many bytes lent.
+pub fn put_lent(case: &mut Vec<u8>, room: u16, script: &[u8]) {
+    case.push(b'B');
+    put_u16(case, room);
+    put_u16(
+        case,
+        u16::try_from(script.len()).expect("script too long for a case"),
+    );
+    case.extend_from_slice(script);
+}
+
+/// The number that stops a call with so many bytes lent, and how many it writes:
+/// a line is written whole or not at all.
+pub fn lent(room: usize, answers: &[u8]) -> (u8, usize) {
+    let mut wrote = 0;
+    for line in answers.split_inclusive(|byte| *byte == b'\n') {
+        if let Some(number) = line.strip_prefix(b"X\t") {
+            let number = std::str::from_utf8(number).expect("a number");
+            return (number.trim_end().parse().expect("a number"), wrote);
+        }
+        if room - wrote < line.len() {
+            return (23, wrote);
+        }
+        wrote += line.len();
+    }
+    (0, wrote)
 }
 
 fn put_whole(case: &mut Vec<u8>, table: &Table) {
@@ -299,6 +329,17 @@ fn answer<R: Read>(input: &mut R, payload: &mut Vec<u8>, out: &mut Vec<u8>) -> i
             read(payload, length as usize)?;
             translate(&payload[..], &mut *out)?;
             out.extend_from_slice(b"--");
+        }
+        b'B' => {
+            read(payload, 4)?;
+            let mut fields = Payload(payload);
+            let (room, length) = (fields.u16(), fields.u16());
+            read(payload, length as usize)?;
+            let mut answers = Vec::new();
+            translate(&payload[..], &mut answers)?;
+            let (number, wrote) = lent(room as usize, &answers);
+            put_answer(out, letter, number);
+            put_field(out, wrote as u32);
         }
         b'S' => {
             read(payload, TABLE)?;

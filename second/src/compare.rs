@@ -65,6 +65,11 @@ const WRITER_NUMBERS: [(u8, u32); 7] = [
     (b'E', 23),
 ];
 const WRITERS_ENOUGH: u64 = 3_000;
+/// The stops that so many damaged scripts have to meet, where a call is lent so
+/// many bytes.
+const LENT_NUMBERS: [u32; 5] = [0, 20, 21, 22, 23];
+const LENT_ENOUGH: u64 = 10_000;
+
 const LETTERS: &[u8; 6] = b"RNPICL";
 
 /// Work whose content follows from the seed and its place in the plan alone.
@@ -221,6 +226,8 @@ struct Tally {
     /// the bytes lent to the last.
     writers: BTreeMap<(u8, u32), u64>,
     writer_fits: u64,
+    /// Calls with so many bytes lent, by the number that stopped them.
+    lent: BTreeMap<u32, u64>,
     /// Counts in headers of scripts that were begun.
     headers: BTreeMap<Vec<u8>, u64>,
     kinds: BTreeMap<String, u64>,
@@ -249,6 +256,7 @@ impl Tally {
         add_all(&mut self.methods, other.methods);
         add_all(&mut self.method_numbers, other.method_numbers);
         add_all(&mut self.writers, other.writers);
+        add_all(&mut self.lent, other.lent);
         add_all(&mut self.headers, other.headers);
         add_all(&mut self.kinds, other.kinds);
     }
@@ -305,6 +313,34 @@ impl Tally {
             self.writer_fits += (next as usize == fields.count()) as u64;
         }
     }
+
+    /// Puts a case of one call with so many bytes lent, and counts it.
+    fn close_lent(&mut self, cases: &mut Cases, room: u16, script: &[u8]) {
+        cases::put_lent(&mut cases.input, room, script);
+        let number = numbers_of(cases.close()).next().unwrap_or_default();
+        *self.lent.entry(number).or_default() += 1;
+    }
+}
+
+/// The longest header and the longest line of a step, with their ends.
+const HEADER_MOST: usize = 14;
+const LINE_MOST: usize = 27;
+
+/// Bytes to lend for a script with these answers: what is set aside for it, which
+/// has to be enough; just as many as they have, one less, or any number.
+fn any_room(rng: &mut Rng, answers: &[u8]) -> u16 {
+    let lines: Vec<&[u8]> = answers.split_inclusive(|b| *b == b'\n').collect();
+    let kept = lines.iter().filter(|line| line[0] != b'X');
+    let (count, length) = kept.fold((0, 0), |(n, l), line| (n + 1, l + line.len()));
+    let aside = HEADER_MOST + LINE_MOST * usize::saturating_sub(count, 1);
+    assert!(length <= aside, "{count} lines have {length} bytes");
+    let room = match rng.below(4) {
+        0 => aside,
+        1 => length,
+        2 => length.saturating_sub(1),
+        _ => rng.below(length as u64 + 1) as usize,
+    };
+    room.min(65_535) as u16
 }
 
 /// The numbers after an answer's letter.
@@ -467,7 +503,12 @@ impl Comparison<'_> {
                     tally.seen.add(&maker.seen);
                     cases::put_script(&mut cases.input, &script);
                     let answers = cases.close();
-                    tally.count_script(&script, &answers[..answers.len() - 3]);
+                    let answers = &answers[..answers.len() - 3];
+                    tally.count_script(&script, answers);
+                    let room = any_room(&mut rng, answers);
+                    if rng.chance(20) {
+                        tally.close_lent(&mut cases, room, &script);
+                    }
                 }
                 self.many(batch, cases)
             }
@@ -486,7 +527,10 @@ impl Comparison<'_> {
                     tally.damaged += 1;
                     cases::put_script(&mut cases.input, &script);
                     let answers = cases.close();
-                    tally.count_script(&script, &answers[..answers.len() - 3]);
+                    let answers = &answers[..answers.len() - 3];
+                    tally.count_script(&script, answers);
+                    let room = any_room(&mut rng, answers);
+                    tally.close_lent(&mut cases, room, &script);
                 }
                 self.many(batch, cases)
             }
@@ -1016,6 +1060,10 @@ pub fn compare(options: &Options) -> i32 {
         )),
         tally.writer_fits
     );
+    println!(
+        "calls with so many bytes lent: {}",
+        listed(&tally.lent, |number| format!("{number}:"))
+    );
     let missing: Vec<String> = NUMBERS
         .iter()
         .filter(|number| !tally.numbers.contains_key(number))
@@ -1042,9 +1090,13 @@ pub fn compare(options: &Options) -> i32 {
         println!("so many lines by the writers have to meet every answer");
         return 1;
     }
+    if options.damaged >= LENT_ENOUGH && LENT_NUMBERS.iter().any(|n| !tally.lent.contains_key(n)) {
+        println!("so many calls have to meet every stop");
+        return 1;
+    }
     println!(
         "no difference: {} scripts, {} steps, {} damaged scripts ({} with a process of their own), \
-         {} table, word and image cases, {} steps by methods, {} lines by the writers, seed {}, {:.1} seconds",
+         {} table, word and image cases, {} steps by methods, {} lines by the writers, {} calls with so many bytes lent, seed {}, {:.1} seconds",
         tally.scripts,
         tally.steps,
         tally.damaged,
@@ -1052,6 +1104,7 @@ pub fn compare(options: &Options) -> i32 {
         tally.others.values().sum::<u64>(),
         tally.methods.values().sum::<u64>(),
         tally.writers.values().sum::<u64>(),
+        tally.lent.values().sum::<u64>(),
         options.seed,
         began.elapsed().as_secs_f64(),
     );

@@ -1,9 +1,13 @@
-// A script's case: what the translator program writes for it.
+// A script's case: what the translator program writes for it, and one call with so many bytes lent.
+use crate::bytes::half;
 use crate::text::eased;
 use crate::text::flush;
 use crate::text::head;
+use crate::text::long_field;
 use crate::text::put;
 use stops::Run;
+ghost use mathlib.Core.Path.{_≡_};
+ghost use lib.ListN.{length};
 
 // Document 01's number for an output that the next line does not fit.
 const NO_ROOM: u16 = 23;
@@ -13,6 +17,36 @@ pub(crate) fn answer(s: &[u8], out: &mut [u8], wrote: usize) -> usize {
         return wrote;
     }
     translated(&s[3..], out, wrote)
+}
+
+pub(crate) fn answer_lent(s: &[u8], out: &mut [u8], wrote: usize) -> usize {
+    if s.len() < 5 {
+        return wrote;
+    }
+    let mut space = lent();
+    let n = half(s, 1) as usize;
+    if 65536 < n {
+        return wrote;
+    }
+    let z = 0;
+    call_once(&s[5..], &mut space[z..n], out, wrote)
+}
+
+// Room for as many bytes as a case can lend.
+fn lent() -> [u8; 65536]
+    ensures { λ r. ⌜ 65536 ≡ length r ⌝ }
+{
+    [0; 65536]
+}
+
+fn call_once(script: &[u8], space: &mut [u8], out: &mut [u8], wrote: usize) -> usize {
+    let run = stops::beginning();
+    let x = translate::translate(run, script, space);
+    let why = x.why;
+    let stands = x.run;
+    let n = stops::stop_number(why);
+    let to = head(out, wrote, b"B", n as u32);
+    long_field(out, to, stands.wrote as u64)
 }
 
 // The script is translated, the output emptied whenever it is full, which a script's lines do far fewer

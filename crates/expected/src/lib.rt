@@ -4,6 +4,7 @@
 // whether there is room, and `put_expected`, the line where there is.
 mod writer;
 
+pub use writer::EXPECTED_MOST;
 pub use writer::expected_fits;
 pub use writer::put_expected;
 pub use writer::write_expected;

@@ -23,6 +23,9 @@ ghost use Rattle.digits.specs.Text.{tabbed, Puts};
 ghost use Rattle.digits.specs.Room.{wrote, left, writtenNumber, writeNumber};
 ghost use Rattle.expected.specs.Expected.{grantBytes, grantsBytes, expectedBytes};
 
+// The longest expected line of a run, with its end.
+pub const EXPECTED_MOST: usize = 27;
+
 // No expected line is longer, whatever its numbers: ten digits, seven times a tab and ten digits, and
 // the end.
 const ROOM_FOR_ANY: usize = 88;

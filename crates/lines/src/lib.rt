@@ -5,6 +5,7 @@
 mod reading;
 
 pub use reading::Ending;
+pub use reading::LINE_MOST;
 pub use reading::StepLine;
 pub use reading::line_end;
 pub use reading::step_line_at;

@@ -2,15 +2,18 @@
 //
 // It holds one piece of the script and one of the answers. Stopped by the script, it writes the line X
 // with the number; what stopped it is said on standard error, with the script's line.
-use libc::STDERR_FILENO;
-use libc::STDIN_FILENO;
+use console::More;
+use console::explain;
+use console::read_behind;
+use console::say_unread;
+use console::say_unwritten;
+use console::within;
 use libc::STDOUT_FILENO;
 use pieces::fronted;
 use pieces::keep;
 use pieces::work;
 use stops::Run;
 use stops::Stop;
-ghost use Rattle.io.specs.Counts.{Counts};
 
 // The run, how many bytes of the piece are the script's, and whether to go on.
 struct Progress {
@@ -60,7 +63,7 @@ fn send(output: &[u8], wrote: usize) -> bool {
     let n = within(wrote, output);
     let sent = io::write_all(STDOUT_FILENO, &output[..n]);
     if !sent {
-        say(b"the output cannot be written\n");
+        say_unwritten();
     }
     sent
 }
@@ -97,36 +100,15 @@ fn ended(run: Run) -> Progress {
 // What is left of the piece moves to its front, and more of the script is read after it.
 fn read_on(run: Run, have: usize, why: Stop, input: &mut [u8]) -> Progress {
     let rest = keep(input, run.place, have);
-    let got = read_after(input, rest);
-    let n = io::count(got, input);
     let next = fronted(run);
-    if got < 0 {
-        say(b"the script cannot be read\n");
-        return ended(next);
+    match read_behind(input, rest) {
+        More::Have(n) => going(next, n),
+        More::Ended => last(next, why),
+        More::Failed => {
+            say_unread();
+            ended(next)
+        }
     }
-    if n == 0 {
-        return last(next, why);
-    }
-    going(next, sum(rest, n))
-}
-
-// One read into the piece, after the bytes that were kept.
-fn read_after(input: &mut [u8], rest: usize) -> isize {
-    let from = within(rest, input);
-    let more = &mut input[from..];
-    libc::read(STDIN_FILENO, more)
-}
-
-// How many bytes of a piece: no more than it has.
-fn within(n: usize, piece: &[u8]) -> usize
-    ensures { λ r. ⌜ Counts r (now (piece .entry)) ⌝ }
-{
-    if n < piece.len() { n } else { piece.len() }
-}
-
-// The sum, or 0 where it does not fit: a piece is far smaller.
-fn sum(a: usize, b: usize) -> usize {
-    if a < usize::MAX - b { a + b } else { 0 }
 }
 
 // The script has ended, well or within a line.
@@ -147,33 +129,6 @@ fn stop(run: Run, why: Stop) -> Progress {
     io::write_all(STDOUT_FILENO, b"X\t");
     io::print_decimal(STDOUT_FILENO, stops::stop_number(why) as u64);
     io::write_all(STDOUT_FILENO, b"\n");
-    io::write_all(STDERR_FILENO, b"line ");
-    io::print_decimal(STDERR_FILENO, line_number(run));
-    io::write_all(STDERR_FILENO, b": ");
-    explain(why);
+    explain(run, why);
     ended(run)
-}
-
-// The number of the script's line at which the run stands: after the header, and a line for each step.
-fn line_number(run: Run) -> u64 {
-    let steps = run.steps as u64;
-    if run.headed { steps + 2 } else { 1 }
-}
-
-fn explain(why: Stop) {
-    match why {
-        Stop::Finished => say(b"finished\n"),
-        Stop::Unsound => say(b"the table is not sound (16)\n"),
-        Stop::BadHeader => say(
-            b"not a header T with 1 to 8 cores, 1 to 8 and 0 to 8 units, and a counter (20)\n",
-        ),
-        Stop::Malformed => say(b"not a step line (21)\n"),
-        Stop::Unfinished => say(b"the script ends before the line does (22)\n"),
-        Stop::NoRoom => say(b"no room for the answer (23)\n"),
-        Stop::TooMany => say(b"a line after 1000000 steps (24)\n"),
-    }
-}
-
-fn say(text: &[u8]) {
-    io::write_all(STDERR_FILENO, text);
 }

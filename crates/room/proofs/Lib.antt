@@ -1,0 +1,5 @@
+pub mod Lines
+pub mod Chains
+pub mod Counted
+pub mod Reached
+pub mod Determined
