@@ -42,7 +42,7 @@ use Rattle.effects.specs.declared.kinds.Move.the-variants.{Enter, GiveUp}
 use Rattle.effects.specs.declared.kinds.Effect.{Effect}
 use Rattle.plan.specs.Plan.{refuse, withUnits, entered, givenUp, carryOut, decided, planStep}
 use Rattle.plan.specs.declared.planning.Plan.{Plan}
-use Rattle.block.specs.Table.{coreOf, unitOf, registerOf, withUnits as allUnits, withUnit, withRegister, withCore, withCounter, Shaped}
+use Rattle.block.specs.Table.{coreOf, unitOf, registerOf, withUnit, withRegister, withCore, withCounter, Shaped}
 use Rattle.block.specs.Sound.{sound}
 use Rattle.block.specs.Parts.{Sound}
 use Rattle.block.specs.Steps.{verdict, awaited, effectOn, giveUp, affected, moves, settled, performed, refusal, answered, onSound}
@@ -82,12 +82,16 @@ module _ (t : Table) (k : CoreNo) where
         grants = g;
       }
 
+  -- the table with these units
+  abbrev allUnits : List LockUnit → Table
+  allUnits us = record { units = us; cores = t .cores; counts = t .counts; counter = t .counter }
+
   -- a refused step
   nothing :
       (i j : UnitNo) (a : Answer) →
       putBack t k i j (refuse a (t .counter) (coreOf t (k .0)) (unitOf t (i .0)) (unitOf t (j .0))) ≡ refusal t a
   nothing i j a =
-      ap (λ (l : List LockUnit). refusal (withCore (allUnits t l) (k .0) (coreOf t (k .0))) a) (both-same (t .units) (i .0) (j .0)) ∙
+      ap (λ (l : List LockUnit). refusal (withCore (allUnits l) (k .0) (coreOf t (k .0))) a) (both-same (t .units) (i .0) (j .0)) ∙
       ap (λ (z : Table). refusal z a) (same-core t (k .0))
 
   -- the units as they were read

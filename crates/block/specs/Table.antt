@@ -1,5 +1,4 @@
 -- "The table": reading it by core and unit number, and the changes that the moves are made of.
-use mathlib.Core.List.{List}
 use Prim.Native.Nat.{ℕ, _+_, _<_}
 use mathlib.Core.Path.{_≡_}
 use lib.ListN.{length, getD, set}
@@ -22,9 +21,6 @@ registerOf t u k = registerIn (unitOf t u) k
 -- how many units the table has, of both classes
 abbrev pub unitCount : Table → ℕ
 unitCount t = t .counts .first + t .counts .second
-
-abbrev pub withUnits : Table → List LockUnit → Table
-withUnits t us = record { units = us; cores = t .cores; counts = t .counts; counter = t .counter }
 
 abbrev pub withUnit : Table → ℕ → LockUnit → Table
 withUnit t u x = record { units = set (t .units) u x; cores = t .cores; counts = t .counts; counter = t .counter }

@@ -6,12 +6,12 @@ use mathlib.Core.Bool.{true}
 use mathlib.Core.List.{List, [], _∷_, _++_, append-assoc}
 use mathlib.Core.Logic.{_⊎_, inl, inr, ⊎-elim}
 use mathlib.Core.Path.{_≡_, refl, sym, _∙_, ap, subst}
-use native.Mathlib.Nat.{add-zero}
 use native.Mathlib.Omega.{arith}
-use lib.ListN.{length, take, drop, length-append, take-append-drop}
+use lib.ListN.{length, take, drop, take-append-drop}
 use lib.Seq.{drop-drop}
 use Rattle.ticket.specs.declared.kinds.Ticket.{Ticket}
-use Rattle.parts.proofs.Bools.{and-left, clash}
+use Rattle.parts.proofs.Bools.{clash}
+use Rattle.parts.specs.Range.{inRange}
 use Rattle.block.specs.Over.{over}
 use Rattle.parts.specs.declared.answer.Step.{Step}
 use Rattle.parts.specs.declared.kinds.Counts.{Counts}
@@ -19,11 +19,11 @@ use Rattle.lines.specs.Bytes.{letterT}
 use Rattle.writing.specs.Writing.{stepBytes, headerBytes}
 use Rattle.writing.proofs.AsWritten.{step-read-is-written, header-read-is-written}
 use Rattle.stops.specs.declared.run.Stop.{Stop}
-use Rattle.walks.specs.Walk.{Reply, Output, hasRoom, put, Desk, replied, Ended, halted, walked}
-use Rattle.walks.proofs.Pasting.{fits-says, pasted-nothing, pasted-twice}
+use Rattle.walks.specs.Walk.{Reply, Desk, replied, Ended, walked}
 use Rattle.walks.proofs.Along.{Goes, Halts, next-line, along, on, stop}
 use Rattle.calls.specs.Call.{Known, stepReply, headerReply, translation}
-use Rattle.calls.specs.Columns.{script, columns, Columned, Opened, ColumnsWritten, OpeningWritten}
+use Rattle.calls.specs.Columns.{script, stepWorked, headerWorked, Columned}
+use Rattle.calls.specs.Claims.{ColumnsWritten, OpeningWritten}
 use Rattle.calls.proofs.Asked.{Stepping, Opening, asked-says, translation-steady}
 
 -- the line's bytes come off the bytes that are left
@@ -38,95 +38,85 @@ line-off s line at used t =
     ap (λ (l : List ℕ). l ++ drop used (drop at s)) t ∙
     ap (λ (l : List ℕ). line ++ l) (drop-drop used at s)
 
--- an output with nothing put, and with two lines put
-put-nothing : (o : Output) → o ≡ put o []
-put-nothing o = λ i. record { bytes = sym (pasted-nothing (o .bytes) (o .wrote)) i; wrote = sym (add-zero (o .wrote)) i }
-
-put-twice : (o : Output) (xs ys : List ℕ) → hasRoom o xs ≡ true → put (put o xs) ys ≡ put o (xs ++ ys)
-put-twice o xs ys f =
-    let h = fits-says (o .bytes) (o .wrote) xs f in
-    let p = pasted-twice (o .bytes) (o .wrote) xs (omega arith) ys in
-    let w : o .wrote + length xs + length ys ≡ o .wrote + length (xs ++ ys) = omega (arith, length-append xs ys) in
-    λ i. record { bytes = p i; wrote = w i }
-
 -- Steps
 
-none-worked : (d : Desk Known) (s : List ℕ) (why : Stop) → Columned d s (halted d why)
+none-worked : (d : Desk Known) (s : List ℕ) → Columned s (d .place) [] d d
 unfolding script over
-none-worked d s why = record { worked = []; read = refl; place = sym (add-zero (d .place)); knows = refl; wrote = put-nothing (d .first) }
+none-worked d s = record { worked = []; read = refl; wrote = refl }
 
 one-worked :
-    (d : Desk Known) (s : List ℕ) (x : Step) (used : ℕ) (e : Ended Known Stop) →
-    let a = stepReply (d .state) x used in
-    Goes translation d s a →
-    drop (d .place) s ≡ stepBytes x ++ drop (d .place + used) s →
-    used ≡ length (stepBytes x) →
-    Columned (replied d a) s e →
-    Columned d s e
+    (d e : Desk Known) (s : List ℕ) (x : Step) →
+    drop (d .place) s ≡ stepBytes x ++ drop (stepWorked d x .place) s →
+    Columned s (stepWorked d x .place) [] (stepWorked d x) e →
+    Columned s (d .place) [] d e
 unfolding script over
-one-worked d s x used e w off p later =
-    let a = stepReply (d .state) x used in
-    let ys = columns (a .then) (later .worked) in
+one-worked d e s x off later =
     record {
       worked = x ∷ later .worked;
       read = off ∙ ap (λ (l : List ℕ). stepBytes x ++ l) (later .read) ∙ sym (append-assoc (stepBytes x) (script (later .worked)) _);
-      place = later .place ∙ omega (arith, length-append (stepBytes x) (script (later .worked)));
-      knows = later .knows;
-      wrote =
-          later .wrote ∙ put-twice (d .first) (a .said) ys (and-left (hasRoom (d .first) (a .said)) (hasRoom (d .second) (a .also)) (w .fits));
+      wrote = later .wrote;
     }
 
 stepping-worked :
-    (d : Desk Known) (s : List ℕ) (a : Reply Known) (e : Ended Known Stop) →
-    Goes translation d s a →
+    (d e : Desk Known) (s : List ℕ) (a : Reply Known) →
     Stepping (d .state) (drop (d .place) s) a →
-    Columned (replied d a) s e →
-    Columned d s e
-stepping-worked d s a e w y later =
+    Columned s (d .place + a .used) [] (replied d a) e →
+    Columned s (d .place) [] d e
+stepping-worked d e s a y later =
+    let line = stepBytes (y .x) in
     let k = step-read-is-written (drop (d .place) s) 0 (y .x) (a .used) (y .read) in
-    one-worked d s (y .x) (a .used) e (subst (Goes translation d s) (y .is) w) (line-off s (stepBytes (y .x)) (d .place) (a .used) (k .0 .0))
-    (omega (arith, k .0 .1))
-    (subst (λ (z : Reply Known). Columned (replied d z) s e) (y .is) later)
+    let long : a .used ≡ length line = omega (arith, k .0 .1) in
+    let is : a ≡ stepReply (d .state) (y .x) (length line) = y .is ∙ ap (stepReply (d .state) (y .x)) long in
+    one-worked d e s (y .x) (line-off s line (d .place) (a .used) (k .0 .0) ∙ ap (λ (n : ℕ). line ++ drop (d .place + n) s) long)
+    (subst (λ (z : Reply Known). Columned s (d .place + z .used) [] (replied d z) e) is later)
 
 pub columns-written : ColumnsWritten
 columns-written d s =
-    along translation translation-steady s (λ (d : Desk Known) (e : Ended Known Stop). d .state .headed ≡ true → Columned d s e)
-    (λ (d : Desk Known) (why : Stop) (w : Halts translation d s why) h. none-worked d s why)
+    along translation translation-steady s
+    (λ (d : Desk Known) (e : Ended Known Stop). d .state .headed ≡ true → Columned s (d .place) [] d (e .desk))
+    (λ (d : Desk Known) (why : Stop) (w : Halts translation d s why) h. none-worked d s)
     (λ (d : Desk Known) (a : Reply Known) (e : Ended Known Stop) (w : Goes translation d s a) later h.
     ⊎-elim
     (λ (y : Stepping (d .state) (drop (d .place) s) a).
-    stepping-worked d s a e w y (later (ap (λ (z : Reply Known). z .then .headed) (y .is))))
+    stepping-worked d (e .desk) s a y (later (ap (λ (z : Reply Known). z .then .headed) (y .is))))
     (λ (y : Opening (d .state) (drop (d .place) s) a). absurd (clash h (y .headed)))
     (asked-says (d .state) (drop (d .place) s) a (w .asks)))
     d
 
 -- The header
 
+abbrev Opened : Desk Known → List ℕ → Desk Known → Type 0
+Opened d s e = (c : Counts) × (n : Ticket) × (inRange c ≡ true) × Columned s (d .place) (headerBytes letterT c n) (headerWorked d c n) e
+
 opening-worked :
-    (d : Desk Known) (s : List ℕ) (a : Reply Known) (e : Ended Known Stop) →
+    (d e : Desk Known) (s : List ℕ) (a : Reply Known) →
     Opening (d .state) (drop (d .place) s) a →
-    Columned (replied d a) s e →
+    Columned s (d .place + a .used) [] (replied d a) e →
     Opened d s e
-opening-worked d s a e y later =
+opening-worked d e s a y later =
     let line = headerBytes letterT (y .c) (y .n) in
     let k = header-read-is-written (drop (d .place) s) 0 (y .c) (y .n) (a .used) (y .read) in
     let long : a .used ≡ length line = omega (arith, k .0 .1) in
     let is : a ≡ headerReply (d .state) (y .c) (y .n) (length line) = y .is ∙ ap (headerReply (d .state) (y .c) (y .n)) long in
-    record {
-      counts = y .c;
-      counter = y .n;
-      ranged = k .1;
-      read =
-          line-off s line (d .place) (a .used) (k .0 .0) ∙
-          ap (λ (n : ℕ). line ++ drop (d .place + n) s) long;
-      steps = subst (λ (z : Reply Known). Columned (replied d z) s e) is later;
-    }
+    let rest = subst (λ (z : Reply Known). Columned s (d .place + z .used) [] (replied d z) e) is later in (
+      y .c,
+      y .n,
+      k .1,
+      record {
+        worked = rest .worked;
+        read =
+            line-off s line (d .place) (a .used) (k .0 .0) ∙
+            ap (λ (n : ℕ). line ++ drop (d .place + n) s) long ∙
+            ap (λ (l : List ℕ). line ++ l) (rest .read);
+        wrote = rest .wrote;
+      },
+    )
 
 pub opening-written : OpeningWritten
 opening-written d s h = go (next-line translation d s)
   where
     Written : Type 0
-    Written = ((why : Stop) × (walked translation d s ≡ halted d why)) ⊎ Opened d s (walked translation d s)
+    Written = (walked translation d s .desk ≡ d) ⊎ Opened d s (walked translation d s .desk)
 
     answered :
         (a : Reply Known) →
@@ -136,9 +126,9 @@ opening-written d s h = go (next-line translation d s)
     answered a w (inl y) = absurd (clash (y .headed) h)
     answered a w (inr y) =
         inr
-        (subst (Opened d s) (sym (on translation translation-steady d s a w))
-        (opening-worked d s a _ y (columns-written (replied d a) s (ap (λ (z : Reply Known). z .then .headed) (y .is)))))
+        (subst (λ (e : Ended Known Stop). Opened d s (e .desk)) (sym (on translation translation-steady d s a w))
+        (opening-worked d _ s a y (columns-written (replied d a) s (ap (λ (z : Reply Known). z .then .headed) (y .is)))))
 
     go : ((a : Reply Known) × Goes translation d s a) ⊎ ((why : Stop) × Halts translation d s why) → Written
     go (inl (a, w)) = answered a w (asked-says (d .state) (drop (d .place) s) a (w .asks))
-    go (inr (why, w)) = inl (why, stop translation translation-steady d s why w)
+    go (inr (why, w)) = inl (ap (λ (e : Ended Known Stop). e .desk) (stop translation translation-steady d s why w))

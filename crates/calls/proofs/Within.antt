@@ -11,8 +11,8 @@ use Rattle.ticket.specs.declared.kinds.Ticket.{Ticket}
 use Rattle.parts.specs.Range.{inRange}
 use Rattle.parts.specs.declared.answer.Step.{Step}
 use Rattle.parts.specs.declared.kinds.Counts.{Counts}
-use Rattle.lines.specs.Reading.{lineEnd, parseStep, stepLine, stepTo, readStep}
-use Rattle.headers.specs.Header.{parseHeader, headerLine, headerTo, readHeader}
+use Rattle.lines.specs.Reading.{lineEnd, parseStep, stepLine, readStep}
+use Rattle.headers.specs.Header.{parseHeader, headerLine, readHeader}
 use Rattle.lines.specs.declared.reading.Ending.{Ending}
 use Rattle.lines.specs.declared.reading.Ending.the-variants.{At, Long, Short}
 use Rattle.lines.specs.declared.reading.Parsed.{Parsed}
@@ -23,7 +23,8 @@ use Rattle.lines.specs.declared.reading.StepLine.{StepLine}
 use Rattle.lines.specs.declared.reading.StepLine.the-variants.{Line, Finished as Nothing, Malformed as NoStep, Unfinished as Cut}
 use Rattle.headers.specs.declared.reading.HeaderLine.{HeaderLine}
 use Rattle.headers.specs.declared.reading.HeaderLine.the-variants.{Header, BadHeader as NoHeader, Unfinished as CutHeader}
-use Rattle.lines.proofs.Turns.{found-within}
+use Rattle.lines.proofs.Turns.{stepTo, found-within}
+use Rattle.headers.proofs.Numbers.{headerTo}
 
 -- Where a line that is read ends
 

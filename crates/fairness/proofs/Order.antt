@@ -2,7 +2,7 @@
 use Rattle.parts.specs.State.{isIdle}
 use Rattle.block.specs.Table.{coreOf}
 use Rattle.parts.proofs.Bools.{not-true-false}
-use Rattle.fairness.specs.Order.{OrderIsIssueOrder}
+use Rattle.fairness.specs.Claims.{OrderIsIssueOrder}
 use Rattle.fairness.proofs.Invariant.{numbered, order}
 
 pub order-is-issue-order : OrderIsIssueOrder

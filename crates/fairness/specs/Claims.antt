@@ -4,6 +4,8 @@ use mathlib.Core.Bool.{true, false}
 use mathlib.Core.List.{List}
 use mathlib.Core.Logic.{_⊎_}
 use mathlib.Core.Path.{_≡_}
+use lib.Dec.{ltb}
+use Rattle.ticket.specs.Order.{older}
 use Rattle.parts.specs.State.{stands, holds}
 use Rattle.parts.specs.Parts.{coreNo}
 use Rattle.block.specs.Table.{coreOf}
@@ -12,7 +14,16 @@ use Rattle.block.specs.Steps.{step}
 use Rattle.parts.specs.declared.answer.Step.{Step}
 use Rattle.parts.specs.declared.answer.Step.the-variants.{P}
 use Rattle.fairness.specs.Run.{Place, Reached, onward, afterAll}
-use Rattle.fairness.specs.Stretch.{grants, gives, enters, leaves, stretch, earlier, passed, interruptions}
+use Rattle.fairness.specs.Stretch.{grants, gives, enters, leaves, stretch, live, earlier, passed, interruptions}
+
+-- "its `earlier` is the order of requests in the run, never the comparison": of live tickets the comparison says what that order says
+abbrev pub OrderIsIssueOrder : Type 0
+OrderIsIssueOrder =
+    (p : Place) (j k : ℕ) →
+    Reached p →
+    live p j ≡ true →
+    live p k ≡ true →
+    older (coreOf (p .table) j .own .0) (coreOf (p .table) k .own .0) ≡ ltb (p .issue j) (p .issue k)
 
 -- "that unit goes only to tickets issued earlier": z is any later step of the stretch, and j whom it grants the unit
 abbrev pub NoOvertaking : Type 0

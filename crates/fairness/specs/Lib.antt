@@ -1,4 +1,3 @@
 pub mod Run
 pub mod Stretch
 pub mod Claims
-pub mod Order

@@ -1,10 +1,10 @@
 -- The header at a place: "before it, nothing left is 22. A place past the end of the script counts as its end. Header order: 22, 20." Its
 -- line ends as any line does.
-use Prim.Native.Nat.{ℕ, _+_, _-_}
-use mathlib.Core.Bool.{Bool, false, cond, _&&_}
+use Prim.Native.Nat.{ℕ}
+use mathlib.Core.Bool.{cond, _&&_}
 use mathlib.Core.List.{List}
-use lib.Dec.{eqb, leb}
-use lib.ListN.{length, getD, take, drop}
+use lib.Dec.{eqb}
+use lib.ListN.{getD}
 use Rattle.ticket.specs.Kinds.{ticket}
 use Rattle.parts.specs.Range.{inRange}
 use Rattle.parts.specs.declared.kinds.Counts.{Counts}
@@ -13,9 +13,7 @@ use Rattle.numbers.specs.Number.{field}
 use Rattle.numbers.specs.declared.number.Field.{Field}
 use Rattle.numbers.specs.declared.number.Field.the-variants.{Bad, Last, Then}
 use Rattle.lines.specs.Bytes.{letterT}
-use Rattle.lines.specs.Reading.{lineEnd, endNumber}
-use Rattle.lines.specs.declared.reading.Ending.{Ending}
-use Rattle.lines.specs.declared.reading.Ending.the-variants.{At, Long, Short}
+use Rattle.lines.specs.Reading.{lineAt}
 use Rattle.headers.specs.declared.reading.ParsedHeader.{ParsedHeader}
 use Rattle.headers.specs.declared.reading.ParsedHeader.the-variants.{Good as GoodHeader, Not as NoHeader}
 use Rattle.headers.specs.declared.reading.HeaderLine.{HeaderLine}
@@ -40,21 +38,15 @@ parseHeader s = cond (eqb (getD s 0 0) letterT && eqb (getD s 1 0) tab) (withCor
 abbrev pub headerLine : ParsedHeader → ℕ → HeaderLine
 headerLine p next = elim p [ GoodHeader c n ↦ cond (inRange c) (Header c n next) BadHeader | NoHeader ↦ BadHeader ]
 
-abbrev pub headerTo : List ℕ → ℕ → Ending → HeaderLine
-headerTo s at found = elim found [ At e ↦ headerLine (parseHeader (take (e - at) (drop at s))) (e + 1) | Long ↦ BadHeader | Short ↦ Unended ]
-
 -- the header at a place
 abbrev pub readHeader : List ℕ → ℕ → HeaderLine
-readHeader s at = cond (leb (length s) at) Unended (headerTo s at (lineEnd s at))
+readHeader s at = lineAt Unended BadHeader Unended (λ bytes next. headerLine (parseHeader bytes) next) s at
 
 -- Document 01's numbers: of an answer; and which is due
 
 abbrev pub headerLineNumber : HeaderLine → ℕ
 headerLineNumber l = elim l [ Header c n next ↦ 0 | BadHeader ↦ 20 | Unended ↦ 22 ]
 
--- the bytes up to the end e are a good header, its counts in range
-abbrev pub isHeader : List ℕ → ℕ → ℕ → Bool
-isHeader s at e = elim (parseHeader (take (e - at) (drop at s))) [ GoodHeader c n ↦ inRange c | NoHeader ↦ false ]
-
 abbrev pub headerNumber : List ℕ → ℕ → ℕ
-headerNumber s at = cond (leb (length s) at) 22 (endNumber 20 (isHeader s at) (lineEnd s at))
+headerNumber s at =
+    lineAt 22 20 22 (λ bytes next. elim (parseHeader bytes) [ GoodHeader c n ↦ cond (inRange c) 0 20 | NoHeader ↦ 20 ]) s at

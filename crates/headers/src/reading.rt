@@ -7,9 +7,9 @@ use parts::Counts;
 use parts::in_range;
 use ticket::Ticket;
 ghost use mathlib.Core.Path.{_≡_};
-ghost use Prim.Native.Nat.{_≤_, _<_};
-ghost use lib.ListN.{length};
-ghost use Rattle.headers.specs.Header.{withCounter, withSecond, withFirst, withCores, parseHeader, headerTo, readHeader, headerLineNumber, headerNumber};
+ghost use Prim.Native.Nat.{_+_, _-_, _≤_, _<_};
+ghost use lib.ListN.{length, take, drop};
+ghost use Rattle.headers.specs.Header.{withCounter, withSecond, withFirst, withCores, parseHeader, headerLine, readHeader, headerLineNumber, headerNumber};
 
 // The bytes of a line as a header.
 pub enum ParsedHeader {
@@ -93,7 +93,7 @@ fn parse_header(s: &[u8]) -> ParsedHeader
 // The header from a place to its end, e.
 fn header_at(s: &[u8], at: usize, e: usize) -> HeaderLine
     requires { ⌜ (at ≤ e) × (e < length (now s)) ⌝ }
-    ensures { λ r. ⌜ r ≡ headerTo (now (s .entry)) at (Ending.At e) ⌝ }
+    ensures { λ r. ⌜ r ≡ headerLine (parseHeader (take (e - at) (drop at (now (s .entry))))) (e + 1) ⌝ }
 {
     match parse_header(&s[at..e]) {
         ParsedHeader::Good(c, n) => {

@@ -14,7 +14,11 @@ use Rattle.parts.specs.declared.kinds.LockUnit.{LockUnit}
 use Rattle.parts.proofs.Bools.{and-left, and-right}
 use Rattle.parts.proofs.Folds.{every-at}
 use Rattle.words.specs.Word.{packable, isGood}
-use Rattle.images.specs.Image.{wordCount, registerAt, goodWord, goodImage, writable}
+use Rattle.images.specs.Image.{wordCount, registerAt, goodImage, writable}
+
+-- word i is good
+abbrev pub goodWord : List ℕ → ℕ → Bool
+goodWord ws i = isGood (getD ws i 0)
 
 module _ (c : Counts) (ws : List ℕ) (good : goodImage c ws ≡ true) where
   pub word-total : length ws ≡ wordCount c

@@ -19,9 +19,13 @@ use Rattle.block.specs.declared.table.Table.{Table}
 use Rattle.block.proofs.Access.{register-same, register-core, register-unit, shaped-register}
 use Rattle.parts.proofs.Along.{same-or-not, along, to-last}
 use Rattle.words.specs.Word.{registerOf}
-use Rattle.images.specs.Image.{wordCount, emptyUnits, registerAt, withRegisterAt, placeWord, unitsOf}
+use Rattle.images.specs.Image.{wordCount, emptyUnits, registerAt, withRegisterAt, unitsOf}
 use Rattle.block.specs.Table.{Shaped}
 use Rattle.images.proofs.Ranges.{unit-in, core-in}
+
+-- the register of word i goes to its place
+abbrev pub placeWord : Counts → List ℕ → ℕ → List LockUnit → List LockUnit
+placeWord c ws i xs = withRegisterAt c xs i (registerOf (getD ws i 0))
 
 -- a list after its first n elements were set, one after another
 module _ (f : ℕ → ℕ) (out : List ℕ) where

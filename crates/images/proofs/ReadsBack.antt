@@ -20,12 +20,11 @@ use Rattle.words.specs.Word.{packable, wordOf, registerOf, isGood}
 use Rattle.words.proofs.Good.{narrow, good-packable}
 use Rattle.words.proofs.Bits.{word-register, register-word}
 use Rattle.words.proofs.ReadsBack.{shows-good}
-use Rattle.images.specs.Image.{wordCount, registerAt, goodWord, goodImage, unitsOf, readImage, writable, wordsInto, writeAnswer, writeLeft}
+use Rattle.images.specs.Image.{wordCount, registerAt, imageAnswer, goodImage, unitsOf, readImage, writable, wordsInto, writeLeft}
 use Rattle.images.specs.Claims.{ImageReadsBack, ImageIsWritten, PastUnread}
 use Rattle.images.specs.declared.image.Image.{Image}
 use Rattle.images.specs.declared.image.ImageAnswer.the-variants.{Done, OutOfRange, BadImage}
-use Rattle.images.proofs.Good.{word-total, word-good, room-total, register-packable}
-use Rattle.images.proofs.Numbers.{two-choices}
+use Rattle.images.proofs.Good.{goodWord, word-total, word-good, room-total, register-packable}
 use Rattle.images.proofs.Places.{Written, written, unit-registers}
 
 module _ (c : Counts) (ranged : inRange c ≡ true) where
@@ -97,7 +96,7 @@ module _ (c : Counts) where
   reads ws e f = rw (e, f)
 
   module _ (xs : List LockUnit) (out : List ℕ) (e : inRange c ≡ true) (f : writable c xs (length out) ≡ true) where
-    writes : writeAnswer c xs (length out) ≡ Done
+    writes : imageAnswer c (writable c xs (length out)) ≡ Done
     writes = rw (e, f)
 
     leaves : writeLeft c xs out ≡ wordsInto c xs out
@@ -114,10 +113,10 @@ write-read c xs out low done =
 
 pub read-write : ImageIsWritten
 read-write c ws out same done =
-    let p = passed (inRange c) (goodImage c ws) (sym (two-choices (λ (x : Image). x .answer) (inRange c) (goodImage c ws) _ _ _) ∙ done) in
+    let p = passed (inRange c) (goodImage c ws) done in
     let r = reads c ws (p .0) (p .1) in
     let able = read-writable c (p .0) ws out (p .1) same in (
-      ap (λ (x : Image). writeAnswer c (x .units) (length out)) r ∙ writes c (unitsOf c ws) out (p .0) able,
+      ap (λ (x : Image). imageAnswer c (writable c (x .units) (length out))) r ∙ writes c (unitsOf c ws) out (p .0) able,
       ap (λ (x : Image). writeLeft c (x .units) out) r ∙
           leaves c (unitsOf c ws) out (p .0) able ∙
           read-words c (p .0) ws out (p .1) same,
@@ -146,6 +145,6 @@ module _
 
 pub past-unread : PastUnread
 past-unread c xs ys out same = (
-  ap (λ (b : Bool). cond (inRange c) (cond b Done BadImage) OutOfRange) (same-writable c xs ys out same),
-  ap₂ (λ (b : Bool) (o : List ℕ). cond (inRange c) (cond b o out) out) (same-writable c xs ys out same) (same-words c xs ys out same),
+  ap (imageAnswer c) (same-writable c xs ys out same),
+  ap₂ (λ (b : Bool) (o : List ℕ). cond (inRange c && b) o out) (same-writable c xs ys out same) (same-words c xs ys out same),
 )

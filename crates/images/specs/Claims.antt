@@ -7,7 +7,7 @@ use lib.ListN.{length}
 use Rattle.ticket.specs.Order.{circle}
 use Rattle.parts.specs.declared.kinds.Counts.{Counts}
 use Rattle.parts.specs.declared.kinds.LockUnit.{LockUnit}
-use Rattle.images.specs.Image.{wordCount, registerAt, readImage, writeAnswer, writeLeft}
+use Rattle.images.specs.Image.{wordCount, registerAt, imageAnswer, readImage, writable, writeLeft}
 use Rattle.images.specs.declared.image.ImageAnswer.the-variants.{Done}
 
 -- an image that was written is read, as the registers that were written
@@ -15,7 +15,7 @@ abbrev pub ImageReadsBack : Type 0
 ImageReadsBack =
     (c : Counts) (xs : List LockUnit) (out : List ℕ) →
     ((i : ℕ) → i < wordCount c → registerAt c xs i .ticket .0 < circle) →
-    writeAnswer c xs (length out) ≡ Done →
+    imageAnswer c (writable c xs (length out)) ≡ Done →
     (readImage c (writeLeft c xs out) .answer ≡ Done) ×
     ((i : ℕ) → i < wordCount c → registerAt c (readImage c (writeLeft c xs out) .units) i ≡ registerAt c xs i)
 
@@ -25,11 +25,11 @@ ImageIsWritten =
     (c : Counts) (ws out : List ℕ) →
     length out ≡ length ws →
     readImage c ws .answer ≡ Done →
-    (writeAnswer c (readImage c ws .units) (length out) ≡ Done) × (writeLeft c (readImage c ws .units) out ≡ ws)
+    (imageAnswer c (writable c (readImage c ws .units) (length out)) ≡ Done) × (writeLeft c (readImage c ws .units) out ≡ ws)
 
 -- "What stands past the counts isn't read": units with the same registers within the counts are written the same
 abbrev pub PastUnread : Type 0
 PastUnread =
     (c : Counts) (xs ys : List LockUnit) (out : List ℕ) →
     ((i : ℕ) → i < wordCount c → registerAt c xs i ≡ registerAt c ys i) →
-    (writeAnswer c xs (length out) ≡ writeAnswer c ys (length out)) × (writeLeft c xs out ≡ writeLeft c ys out)
+    (imageAnswer c (writable c xs (length out)) ≡ imageAnswer c (writable c ys (length out))) × (writeLeft c xs out ≡ writeLeft c ys out)

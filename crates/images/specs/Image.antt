@@ -33,42 +33,33 @@ registerAt c xs i = registerIn (getD xs (i / c .cores) absentUnit) (i % c .cores
 abbrev pub withRegisterAt : Counts → List LockUnit → ℕ → Register → List LockUnit
 withRegisterAt c xs i r = set xs (i / c .cores) (registered (getD xs (i / c .cores) absentUnit) (i % c .cores) r)
 
+-- the answer, by whether what is read or written is good: 20 before 30
+abbrev pub imageAnswer : Counts → Bool → ImageAnswer
+imageAnswer c good = cond (inRange c) (cond good Done BadImage) OutOfRange
+
 -- Reading
 
--- word i is good
-abbrev pub goodWord : List ℕ → ℕ → Bool
-goodWord ws i = isGood (getD ws i 0)
-
--- its register goes to its place
-abbrev pub placeWord : Counts → List ℕ → ℕ → List LockUnit → List LockUnit
-placeWord c ws i xs = withRegisterAt c xs i (registerOf (getD ws i 0))
-
 abbrev pub goodImage : Counts → List ℕ → Bool
-goodImage c ws = eqb (length ws) (wordCount c) && every (goodWord ws) (wordCount c)
+goodImage c ws = eqb (length ws) (wordCount c) && every (λ (i : ℕ). isGood (getD ws i 0)) (wordCount c)
 
+-- each word's register in its place
 abbrev pub unitsOf : Counts → List ℕ → List LockUnit
-unitsOf c ws = upTo (placeWord c ws) (wordCount c) emptyUnits
+unitsOf c ws = upTo (λ (i : ℕ) (xs : List LockUnit). withRegisterAt c xs i (registerOf (getD ws i 0))) (wordCount c) emptyUnits
 
 abbrev pub readImage : Counts → List ℕ → Image
-readImage c ws =
-    cond (inRange c)
-    (cond (goodImage c ws) (record { units = unitsOf c ws; answer = Done }) (record { units = emptyUnits; answer = BadImage }))
-    (record { units = emptyUnits; answer = OutOfRange })
+readImage c ws = record { units = cond (inRange c && goodImage c ws) (unitsOf c ws) emptyUnits; answer = imageAnswer c (goodImage c ws) }
 
 -- Writing
 
 abbrev pub writable : Counts → List LockUnit → ℕ → Bool
 writable c xs room = eqb room (wordCount c) && every (λ (i : ℕ). packable (registerAt c xs i)) (wordCount c)
 
--- the words that the room holds then
+-- the words that the room holds then, and what it holds in any case
 abbrev pub wordsInto : Counts → List LockUnit → List ℕ → List ℕ
 wordsInto c xs out = upTo (λ (i : ℕ) (o : List ℕ). set o i (wordOf (registerAt c xs i))) (wordCount c) out
 
-abbrev pub writeAnswer : Counts → List LockUnit → ℕ → ImageAnswer
-writeAnswer c xs room = cond (inRange c) (cond (writable c xs room) Done BadImage) OutOfRange
-
 abbrev pub writeLeft : Counts → List LockUnit → List ℕ → List ℕ
-writeLeft c xs out = cond (inRange c) (cond (writable c xs (length out)) (wordsInto c xs out) out) out
+writeLeft c xs out = cond (inRange c && writable c xs (length out)) (wordsInto c xs out) out
 
 -- Document 01's numbers: of an answer; and which is due, 20 before 30
 

@@ -15,11 +15,11 @@ use words::unpack;
 ghost use mathlib.Core.Path.{_≡_};
 ghost use mathlib.Core.Bool.{true};
 ghost use Prim.Native.Nat.{_<_};
-ghost use lib.ListN.{length};
+ghost use lib.ListN.{length, getD};
 ghost use Rattle.parts.specs.Fold.{every};
 ghost use Rattle.parts.specs.Range.{inRange};
 ghost use Rattle.words.specs.Word.{packable, wordOf, registerOf, isGood};
-ghost use Rattle.images.specs.Image.{wordCount, emptyUnits, registerAt, goodWord, goodImage, unitsOf, readImage, writable, wordsInto, writeAnswer, writeLeft, imageNumber, dueNumber};
+ghost use Rattle.images.specs.Image.{wordCount, emptyUnits, registerAt, imageAnswer, goodImage, unitsOf, readImage, writable, wordsInto, writeLeft, imageNumber, dueNumber};
 
 // 0: done. 20: counts out of range. 30: a bad word or register, or a number of words that is not units
 // times cores.
@@ -88,7 +88,7 @@ fn shown(w: u32) -> Register
 }
 
 fn good_words(words: &[u32]) -> bool
-    ensures { λ r. ⌜ r ≡ every (goodWord (now (words .entry))) (length (now (words .entry))) ⌝ }
+    ensures { λ r. ⌜ r ≡ every (λ i. isGood (getD (now (words .entry)) i 0)) (length (now (words .entry))) ⌝ }
 {
     let mut ok = true;
     let mut i = 0;
@@ -211,7 +211,7 @@ fn write_words(c: Counts, units: [LockUnit; UNITS], out: &mut [u32])
 // Writes the image of the units within the counts. The room must be exactly its words; a refusal
 // changes none.
 pub fn write_image(c: Counts, units: [LockUnit; UNITS], out: &mut [u32]) -> ImageAnswer
-    ensures { λ r. ⌜ (r ≡ writeAnswer c units (length (now (out .entry)))) × (now (out .exit) ≡ writeLeft c units (now (out .entry))) × (imageNumber r ≡ dueNumber c (writable c units (length (now (out .entry))))) ⌝ }
+    ensures { λ r. ⌜ (r ≡ imageAnswer c (writable c units (length (now (out .entry))))) × (now (out .exit) ≡ writeLeft c units (now (out .entry))) × (imageNumber r ≡ dueNumber c (writable c units (length (now (out .entry))))) ⌝ }
 {
     if !in_range(c) {
         return ImageAnswer::OutOfRange;

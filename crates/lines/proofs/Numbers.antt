@@ -5,18 +5,23 @@ use mathlib.Core.List.{List}
 use mathlib.Core.Path.{_≡_, refl}
 use lib.Dec.{leb}
 use lib.ListN.{length, take, drop}
-use Rattle.lines.specs.Reading.{lineEnd, parseStep, stepLine, stepTo, readStep, stepLineNumber, endNumber, isStep, stepNumber}
+use Rattle.lines.specs.Reading.{lineEnd, parseStep, stepLine, readStep, stepLineNumber, stepNumber}
 use Rattle.lines.specs.declared.reading.Ending.{Ending}
 use Rattle.lines.specs.declared.reading.Ending.the-variants.{At, Long, Short}
 use Rattle.lines.specs.declared.reading.Parsed.{Parsed}
 use Rattle.lines.specs.declared.reading.Parsed.the-variants.{Good, Not}
 use Rattle.lines.specs.declared.reading.StepLine.the-variants.{Finished}
+use Rattle.lines.proofs.Turns.{stepTo}
 
-parsed-number : (p : Parsed) (next : ℕ) → stepLineNumber (stepLine p next) ≡ cond (elim p [ Good x ↦ true | Not ↦ false ]) 0 21
+parsed-number : (p : Parsed) (next : ℕ) → stepLineNumber (stepLine p next) ≡ elim p [ Good x ↦ 0 | Not ↦ 21 ]
 parsed-number (Good x) next = refl
 parsed-number Not next = refl
 
-ended-number : (s : List ℕ) (at : ℕ) (found : Ending) → stepLineNumber (stepTo s at found) ≡ endNumber 21 (isStep s at) found
+-- the number by where the line ends
+abbrev dueTo : List ℕ → ℕ → Ending → ℕ
+dueTo s at found = elim found [ At e ↦ elim (parseStep (take (e - at) (drop at s))) [ Good x ↦ 0 | Not ↦ 21 ] | Long ↦ 21 | Short ↦ 22 ]
+
+ended-number : (s : List ℕ) (at : ℕ) (found : Ending) → stepLineNumber (stepTo s at found) ≡ dueTo s at found
 ended-number s at (At e) = parsed-number (parseStep (take (e - at) (drop at s))) (e + 1)
 ended-number s at Long = refl
 ended-number s at Short = refl
@@ -26,6 +31,6 @@ step-number s at = go (leb (length s) at)
   where
     go :
         (b : Bool) →
-        stepLineNumber (cond b Finished (stepTo s at (lineEnd s at))) ≡ cond b 0 (endNumber 21 (isStep s at) (lineEnd s at))
+        stepLineNumber (cond b Finished (stepTo s at (lineEnd s at))) ≡ cond b 0 (dueTo s at (lineEnd s at))
     go true = refl
     go false = ended-number s at (lineEnd s at)

@@ -8,14 +8,20 @@ use native.Mathlib.Nat.{not-suc-le-zero}
 use native.Mathlib.Numerals.{unary-clauses}
 use native.Mathlib.Omega.{arith}
 use lib.Dec.{eqb}
-use lib.ListN.{length, getD, drop, drop-of-length-le, length-drop}
+use lib.ListN.{length, getD, take, drop, drop-of-length-le, length-drop}
 use borrow.Author.Tests.{eq-eqb, ne-eqb}
 use Rattle.numbers.specs.Bytes.{end}
 use Rattle.numbers.proofs.Turns.{opened}
 use Rattle.lines.specs.Bytes.{lineMost}
-use Rattle.lines.specs.Reading.{ending, lineEnd}
+use Rattle.lines.specs.Reading.{ending, lineEnd, parseStep, stepLine}
 use Rattle.lines.specs.declared.reading.Ending.{Ending}
 use Rattle.lines.specs.declared.reading.Ending.the-variants.{At, Long, Short}
+use Rattle.lines.specs.declared.reading.StepLine.{StepLine}
+use Rattle.lines.specs.declared.reading.StepLine.the-variants.{Malformed, Unfinished}
+
+-- the step line at a place that is not past the end, by where it ends
+abbrev pub stepTo : List ℕ → ℕ → Ending → StepLine
+stepTo s at found = elim found [ At e ↦ stepLine (parseStep (take (e - at) (drop at s))) (e + 1) | Long ↦ Malformed | Short ↦ Unfinished ]
 
 -- a look at one byte more, while looks are left
 look-byte :

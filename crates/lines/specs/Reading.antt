@@ -2,7 +2,7 @@
 -- it aren't a step line; 22 if fewer than 14 bytes remain and none is a line end. After the header, nothing left means finished." "A
 -- place past the end of the script counts as its end."
 use Prim.Native.Nat.{ℕ, zero, suc, _+_, _-_}
-use mathlib.Core.Bool.{Bool, true, false, cond}
+use mathlib.Core.Bool.{cond}
 use mathlib.Core.List.{List, [], _∷_}
 use lib.Dec.{eqb, leb}
 use lib.ListN.{length, getD, take, drop}
@@ -30,6 +30,13 @@ ending (suc f) i (b ∷ bs) = cond (eqb b end) (At i) (let more = ending f (i + 
 -- the end of the line that starts at a place
 abbrev pub lineEnd : List ℕ → ℕ → Ending
 lineEnd s at = ending lineMost at (drop at s)
+
+-- what stands at a place: the bytes up to the line's end as `read` reads them, with the place after it; `none` where nothing is left, `bad`
+-- where the next 14 bytes hold no line end, and `cut` where fewer remain and none is one
+abbrev pub lineAt : {A : Type 0} → A → A → A → (List ℕ → ℕ → A) → List ℕ → ℕ → A
+lineAt none bad cut read s at =
+    cond (leb (length s) at) none
+    (elim (lineEnd s at) [ At e ↦ read (take (e - at) (drop at s)) (e + 1) | Long ↦ bad | Short ↦ cut ])
 
 -- Step lines
 
@@ -59,25 +66,14 @@ parseStep s = cond (eqb (getD s 1 0) tab) (afterLetter s (getD s 0 0) (field s 2
 abbrev pub stepLine : Parsed → ℕ → StepLine
 stepLine p next = elim p [ Good x ↦ Line x next | Not ↦ Malformed ]
 
-abbrev pub stepTo : List ℕ → ℕ → Ending → StepLine
-stepTo s at found = elim found [ At e ↦ stepLine (parseStep (take (e - at) (drop at s))) (e + 1) | Long ↦ Malformed | Short ↦ Unfinished ]
-
 -- the step line at a place
 abbrev pub readStep : List ℕ → ℕ → StepLine
-readStep s at = cond (leb (length s) at) Finished (stepTo s at (lineEnd s at))
+readStep s at = lineAt Finished Malformed Unfinished (λ bytes next. stepLine (parseStep bytes) next) s at
 
 -- Document 01's numbers: of an answer; and which is due
 
 abbrev pub stepLineNumber : StepLine → ℕ
 stepLineNumber l = elim l [ Line x next ↦ 0 | Finished ↦ 0 | Malformed ↦ 21 | Unfinished ↦ 22 ]
 
--- by a line's end: 22 where none is found yet, and bad where none is within the longest line, or the bytes up to it aren't good
-abbrev pub endNumber : ℕ → (ℕ → Bool) → Ending → ℕ
-endNumber bad good found = elim found [ At e ↦ cond (good e) 0 bad | Long ↦ bad | Short ↦ 22 ]
-
--- the bytes up to the end e are a step line
-abbrev pub isStep : List ℕ → ℕ → ℕ → Bool
-isStep s at e = elim (parseStep (take (e - at) (drop at s))) [ Good x ↦ true | Not ↦ false ]
-
 abbrev pub stepNumber : List ℕ → ℕ → ℕ
-stepNumber s at = cond (leb (length s) at) 0 (endNumber 21 (isStep s at) (lineEnd s at))
+stepNumber s at = lineAt 0 21 22 (λ bytes next. elim (parseStep bytes) [ Good x ↦ 0 | Not ↦ 21 ]) s at

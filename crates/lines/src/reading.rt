@@ -5,10 +5,10 @@ use parts::Step;
 use ticket::CoreNo;
 use ticket::UnitNo;
 ghost use mathlib.Core.Path.{_≡_};
-ghost use Prim.Native.Nat.{_≤_, _<_};
-ghost use lib.ListN.{length};
+ghost use Prim.Native.Nat.{_+_, _-_, _≤_, _<_};
+ghost use lib.ListN.{length, take, drop};
 ghost use Rattle.lines.specs.ShortLine.{digit, shortLine};
-ghost use Rattle.lines.specs.Reading.{lineEnd, oneNumber, twoNumbers, afterCore, afterLetter, parseStep, stepLine, stepTo, readStep, stepLineNumber, stepNumber};
+ghost use Rattle.lines.specs.Reading.{lineEnd, oneNumber, twoNumbers, afterCore, afterLetter, parseStep, stepLine, readStep, stepLineNumber, stepNumber};
 
 // The longest script line, with its end.
 pub const LINE_MOST: usize = 14;
@@ -201,7 +201,7 @@ fn any_line(s: &[u8], at: usize) -> StepLine
 // The step line from a place to its end, e.
 fn step_at(s: &[u8], at: usize, e: usize) -> StepLine
     requires { ⌜ (at ≤ e) × (e < length (now s)) ⌝ }
-    ensures { λ r. ⌜ r ≡ stepTo (now (s .entry)) at (Ending.At e) ⌝ }
+    ensures { λ r. ⌜ r ≡ stepLine (parseStep (take (e - at) (drop at (now (s .entry))))) (e + 1) ⌝ }
 {
     found(parse_step(&s[at..e]), e + 1)
 }

@@ -1,7 +1,7 @@
 -- What holds of every walk whose turn is steady, together.
 use Prim.Native.Nat.{ℕ, suc, _+_, _≤_}
 use mathlib.Core.List.{List}
-use mathlib.Core.Logic.{_≢_}
+use mathlib.Core.Logic.{_≢_, ⊎-elim}
 use native.Mathlib.Omega.{arith}
 use lib.ListN.{length, drop, length-append}
 use Rattle.walks.specs.Walk.{Turn, Steady, Desk, walked}
@@ -34,7 +34,6 @@ every-walk Q W T steady =
       stopsThere = λ d s. halts-turned T (walked T d s .desk) s (walked T d s .why) (halts-there T steady d s);
       keeps = kept T steady;
       goesOn = goes-on T steady;
-      inPieces = one-walk T steady;
-      roomInOne = one-walk-room T steady;
+      inPieces = λ q p ps x y other. ⊎-elim (one-walk T steady q p ps x y other) (λ h. one-walk-room T steady q p ps x y other (h .0) (h .1));
       enoughRoom = enough T steady;
     }

@@ -9,10 +9,14 @@ use native.Mathlib.Nat.{le-refl}
 use native.Mathlib.Omega.{arith}
 use lib.ListN.{length, take, drop}
 use Rattle.walks.specs.Walk.{Reply, Turn, Steady, Output, Desk, Ended, walked}
-use Rattle.walks.specs.Pieces.{Piece, Going, begun, lent, fresh, written, given, pieces, allMore, inOne}
+use Rattle.walks.specs.Pieces.{Piece, Going, begun, lent, fresh, written, given, pieces, allMore}
 use Rattle.walks.proofs.Pasting.{take-with}
 use Rattle.walks.proofs.Along.{asked, Halts}
 use Rattle.walks.proofs.Chains.{text, said, also, text-append, Wrote, Chain, chain-append, chain-more, beginning, at-end, Stretch, stretch, room-enough}
+
+-- the same bytes in one piece
+abbrev inOne : List Piece → List ℕ → List ℕ → Piece
+inOne ps first second = record { more = allMore ps; first = first; second = second }
 
 -- what a stretch wrote into bytes lent for it
 written-said : (room xs : List ℕ) (o : Output) → Wrote (lent room) o xs → written o ≡ xs

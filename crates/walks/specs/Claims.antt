@@ -2,11 +2,11 @@
 -- stopped, and a script in pieces is answered as in one.
 use Prim.Native.Nat.{ℕ, _-_, _≤_, _<_}
 use mathlib.Core.List.{List, _∷_, _++_}
-use mathlib.Core.Logic.{inr, _≢_}
+use mathlib.Core.Logic.{_⊎_, inr, _≢_}
 use mathlib.Core.Path.{_≡_}
 use lib.ListN.{length, take, drop}
 use Rattle.walks.specs.Walk.{Turn, Steady, Output, Desk, turned, halted, lines, walked}
-use Rattle.walks.specs.Pieces.{Piece, begun, given, pieces, inOne}
+use Rattle.walks.specs.Pieces.{Piece, begun, given, pieces, allMore}
 
 -- o became m: it is as long, the bytes before o's place are as they were, and so are those past m's
 pub record Kept (o m : Output) : Type 0 where
@@ -35,17 +35,12 @@ pub record Walks {Q W : Type 0} (T : Turn Q W) : Type 0 where
   pub goesOn :
       (d : Desk Q) (s more x y : List ℕ) →
       walked T (roomier (walked T d s .desk) x y) (s ++ more) ≡ walked T (roomier d x y) (s ++ more)
-  -- a script in pieces is answered as in one, where neither ends for want of room
+  -- a script in pieces is answered as in one, where neither ends for want of room; room for what the pieces' walks wrote is enough for the one
   pub inPieces :
       (q : Q) (p : Piece) (ps : List Piece) (x y : List ℕ) →
       let g = pieces T (begun T q) (p ∷ ps) in
-      let one = given T (begun T q) (inOne (p ∷ ps) x y) in
-      g .why ≢ T .full → one .why ≢ T .full → g ≡ one
-  -- room for what the pieces' walks wrote is enough for the one
-  pub roomInOne :
-      (q : Q) (p : Piece) (ps : List Piece) (x y : List ℕ) →
-      let g = pieces T (begun T q) (p ∷ ps) in
-      g .why ≢ T .full → length (g .first) ≤ length x → length (g .second) ≤ length y → g ≡ given T (begun T q) (inOne (p ∷ ps) x y)
+      let one = given T (begun T q) (record { more = allMore (p ∷ ps); first = x; second = y }) in
+      g .why ≢ T .full → (one .why ≢ T .full) ⊎ ((length (g .first) ≤ length x) × (length (g .second) ≤ length y)) → g ≡ one
   -- for every script there is room enough
   pub enoughRoom :
       (d : Desk Q) (s : List ℕ) →

@@ -54,7 +54,3 @@ pieces T g (p ∷ ps) = pieces T (given T g p) ps
 unfoldable pub allMore : List Piece → List ℕ
 allMore [] = []
 allMore (p ∷ ps) = p .more ++ allMore ps
-
--- the same bytes in one piece
-abbrev pub inOne : List Piece → List ℕ → List ℕ → Piece
-inOne ps first second = record { more = allMore ps; first = first; second = second }

@@ -20,11 +20,11 @@ use Rattle.numbers.specs.Bytes.{tab, end}
 use Rattle.lines.specs.Bytes.{lineMost, letterT}
 use Rattle.lines.proofs.Letters.{letterR, letterN, letterP, letterI, letterC, letterL}
 use Rattle.numbers.specs.Number.{decimal, numberMost, field}
-use Rattle.lines.specs.Reading.{ending, lineEnd, oneNumber, twoNumbers, afterCore, afterLetter, parseStep, stepLine, stepTo}
-use Rattle.headers.specs.Header.{withCounter, withSecond, withFirst, withCores, parseHeader, headerLine, headerTo}
+use Rattle.lines.specs.Reading.{ending, lineEnd, oneNumber, twoNumbers, afterCore, afterLetter, parseStep, stepLine, readStep}
+use Rattle.headers.specs.Header.{withCounter, withSecond, withFirst, withCores, parseHeader, headerLine, readHeader}
 use Rattle.digits.specs.Text.{tabbed}
 use Rattle.writing.specs.Writing.{lettered, lettered2, numbersOf, stepBytes, headerBytes}
-use Rattle.writing.specs.Claims.{Small, Stands, StepIsWritten, HeaderIsWritten}
+use Rattle.writing.specs.Claims.{Small, Stands}
 use Rattle.numbers.specs.declared.number.Field.{Field}
 use Rattle.numbers.specs.declared.number.Field.the-variants.{Bad, Last, Then}
 use Rattle.lines.specs.declared.reading.Ending.{Ending}
@@ -38,6 +38,8 @@ use Rattle.headers.specs.declared.reading.ParsedHeader.the-variants.{Good as Go
 use Rattle.headers.specs.declared.reading.HeaderLine.{HeaderLine}
 use Rattle.headers.specs.declared.reading.HeaderLine.the-variants.{Header, BadHeader, Unfinished as Unended}
 use Rattle.numbers.proofs.Scanning.{Says, scan-says}
+use Rattle.lines.proofs.Turns.{stepTo}
+use Rattle.headers.proofs.Numbers.{headerTo}
 
 -- The line's end
 
@@ -186,7 +188,8 @@ step-to-says s at (At e) (xs, rest, d, is) = rw (up-to-end s xs rest at e d is) 
 step-to-says s at Long says = tt
 step-to-says s at Short says = tt
 
-pub step-read-is-written : StepIsWritten
+pub step-read-is-written :
+    (s : List ℕ) (at : ℕ) (x : Step) (next : ℕ) → readStep s at ≡ Line x next → Stands s at next (stepBytes x) × Small (numbersOf x)
 step-read-is-written s at x next e = subst (LineSays s at) e (go (leb (length s) at))
   where
     go : (t : Bool) → LineSays s at (cond t Finished (stepTo s at (lineEnd s at)))
@@ -278,7 +281,10 @@ header-to-says s at (At e) (xs, rest, d, is) = rw (up-to-end s xs rest at e d is
 header-to-says s at Long says = tt
 header-to-says s at Short says = tt
 
-pub header-read-is-written : HeaderIsWritten
+pub header-read-is-written :
+    (s : List ℕ) (at : ℕ) (c : Counts) (n : Ticket) (next : ℕ) →
+    readHeader s at ≡ Header c n next →
+    Stands s at next (headerBytes letterT c n) × (inRange c ≡ true) × (n .0 ≤ numberMost)
 header-read-is-written s at c n next e = subst (HeaderSays s at) e (go (leb (length s) at))
   where
     go : (t : Bool) → HeaderSays s at (cond t Unended (headerTo s at (lineEnd s at)))

@@ -1,4 +1,5 @@
 pub mod ReadsBack
 pub mod AsWritten
+pub mod Standing
 pub mod Lengths
 pub mod Determined

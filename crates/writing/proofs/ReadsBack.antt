@@ -24,13 +24,14 @@ use Rattle.numbers.specs.Number.{decimal, numberMost, scan, field}
 use Rattle.lines.specs.Reading.{ending, lineEnd, oneNumber, twoNumbers, parseStep, stepLine, readStep}
 use Rattle.headers.specs.Header.{parseHeader, headerLine, readHeader}
 use Rattle.digits.specs.Text.{tabbed}
-use Rattle.writing.specs.Writing.{lettered, lettered2, headerBytes}
-use Rattle.writing.specs.Claims.{StepReadsBack, HeaderReadsBack}
+use Rattle.writing.specs.Writing.{lettered, lettered2, numbersOf, stepBytes, headerBytes}
+use Rattle.writing.specs.Claims.{Small}
 use Rattle.numbers.specs.declared.number.Field.the-variants.{Last, Then}
 use Rattle.lines.specs.declared.reading.Ending.the-variants.{At}
 use Rattle.lines.specs.declared.reading.Parsed.the-variants.{Good}
 use Rattle.lines.specs.declared.reading.StepLine.the-variants.{Line}
 use Rattle.headers.specs.declared.reading.ParsedHeader.the-variants.{Good as GoodHeader}
+use Rattle.headers.specs.declared.reading.HeaderLine.the-variants.{Header}
 use Rattle.numbers.proofs.Scanning.{AllDigits, digits-all, digits-most, scan-digits, decimal-length}
 
 -- The line's end
@@ -142,7 +143,11 @@ module _ (pre post : List ℕ) (letter k : ℕ) (x : Step) (other : letter ≡ e
       let whole : lettered2 letter k u ≡ body ++ (end ∷ []) = sym (append-assoc (letter ∷ tabbed k) (tabbed u) (end ∷ [])) in
       step-line pre post (lettered2 letter k u) body whole plain (omega arith) ∙ simp (first .0, second, is)
 
-pub read-step-written : StepReadsBack
+pub read-step-written :
+    (x : Step) →
+    Small (numbersOf x) →
+    (pre post : List ℕ) →
+    readStep (pre ++ (stepBytes x ++ post)) (length pre) ≡ Line x (length pre + length (stepBytes x))
 read-step-written (R k u) h pre post = two-written pre post letterR (k .0) (R k u) (λ e. omega arith) (h .0) (u .0) (h .1 .0) refl
 read-step-written (N k u) h pre post = two-written pre post letterN (k .0) (N k u) (λ e. omega arith) (h .0) (u .0) (h .1 .0) refl
 read-step-written (P k) h pre post = one-written pre post letterP (k .0) (P k) (λ e. omega arith) (h .0) refl
@@ -217,7 +222,12 @@ module _ (c : Counts) (n : Ticket) where
         let four = field-last header k (n .0) most (three .1) in
         simp (one .0, two .0, three .0, four)
 
-pub read-header-written : HeaderReadsBack
+pub read-header-written :
+    (c : Counts) (n : Ticket) →
+    inRange c ≡ true →
+    n .0 ≤ numberMost →
+    (pre post : List ℕ) →
+    readHeader (pre ++ (headerBytes letterT c n ++ post)) (length pre) ≡ Header c n (length pre + length (headerBytes letterT c n))
 read-header-written c n good most pre post =
     header-line pre post (headerBytes letterT c n) (header c n) (header-whole c n) (header-plain c n) (header-few c n good most)
     ∙ simp (header-parsed c n good most, good)

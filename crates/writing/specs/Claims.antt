@@ -2,7 +2,8 @@
 -- is read is the one that is written.
 use Prim.Native.Nat.{ℕ, _+_, _-_, _≤_}
 use mathlib.Core.Bool.{true}
-use mathlib.Core.List.{List, [], _∷_, _++_}
+use mathlib.Core.List.{List, [], _∷_}
+use mathlib.Core.Logic.{_↔_}
 use mathlib.Core.Path.{_≡_}
 use lib.ListN.{length, take, drop}
 use Rattle.ticket.specs.declared.kinds.Ticket.{Ticket}
@@ -22,27 +23,17 @@ abbrev pub Small : List ℕ → Type 0
 Small [] = Unit {0}
 Small (n ∷ ns) = (n ≤ numberMost) × Small ns
 
--- the bytes of a line, in the middle of any others, are read up to the place after them
-abbrev pub ReadsBack : {A : Type 0} → (List ℕ → ℕ → A) → List ℕ → (ℕ → A) → Type 0
-ReadsBack read line found = (pre post : List ℕ) → read (pre ++ (line ++ post)) (length pre) ≡ found (length pre + length line)
-
 -- from a place up to the next one stand the bytes of a line
 abbrev pub Stands : List ℕ → ℕ → ℕ → List ℕ → Type 0
 Stands s at next line = (take (next - at) (drop at s) ≡ line) × (next ≡ at + length line)
 
-abbrev pub StepReadsBack : Type 0
-StepReadsBack = (x : Step) → Small (numbersOf x) → ReadsBack readStep (stepBytes x) (Line x)
+-- a value is found at a place, up to the next one, exactly where its line stands, and where the line is one that can be written
+abbrev pub ReadAsWritten : {A : Type 0} → (List ℕ → ℕ → A) → (ℕ → A) → List ℕ → Type 0 → Type 0
+ReadAsWritten read found line can = (s : List ℕ) (at next : ℕ) → (read s at ≡ found next) ↔ (Stands s at next line × can)
 
-abbrev pub HeaderReadsBack : Type 0
-HeaderReadsBack =
-    (c : Counts) (n : Ticket) → inRange c ≡ true → n .0 ≤ numberMost → ReadsBack readHeader (headerBytes letterT c n) (Header c n)
+abbrev pub StepAsWritten : Type 0
+StepAsWritten = (x : Step) → ReadAsWritten readStep (Line x) (stepBytes x) (Small (numbersOf x))
 
-abbrev pub StepIsWritten : Type 0
-StepIsWritten =
-    (s : List ℕ) (at : ℕ) (x : Step) (next : ℕ) → readStep s at ≡ Line x next → Stands s at next (stepBytes x) × Small (numbersOf x)
-
-abbrev pub HeaderIsWritten : Type 0
-HeaderIsWritten =
-    (s : List ℕ) (at : ℕ) (c : Counts) (n : Ticket) (next : ℕ) →
-    readHeader s at ≡ Header c n next →
-    Stands s at next (headerBytes letterT c n) × (inRange c ≡ true) × (n .0 ≤ numberMost)
+abbrev pub HeaderAsWritten : Type 0
+HeaderAsWritten =
+    (c : Counts) (n : Ticket) → ReadAsWritten readHeader (Header c n) (headerBytes letterT c n) ((inRange c ≡ true) × (n .0 ≤ numberMost))

@@ -6,12 +6,12 @@ use lib.ListN.{length}
 use borrow.Author.Tests.{le-leb, lt-leb}
 use borrow.Author.Needs.{needs}
 use Rattle.lines.specs.Reading.{lineEnd}
-use Rattle.headers.specs.Header.{headerTo, readHeader, headerLineNumber, headerNumber}
+use Rattle.headers.specs.Header.{readHeader, headerLineNumber, headerNumber}
 use Rattle.lines.specs.declared.reading.Ending.{Ending}
 use Rattle.headers.specs.declared.reading.HeaderLine.{HeaderLine}
 use Rattle.headers.specs.declared.reading.HeaderLine.the-variants.{Unfinished}
 use Rattle.lines.proofs.Turns.{found-within}
-use Rattle.headers.proofs.Numbers.{header-number}
+use Rattle.headers.proofs.Numbers.{headerTo, header-number}
 use Rattle.headers.proofs.reading.header_line_at.Statement.{statement}
 use Rattle.headers.proofs.reading.header_line_at.Tie as tie
 

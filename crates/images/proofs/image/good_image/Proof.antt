@@ -8,8 +8,8 @@ use lib.Dec.{eqb}
 use lib.ListN.{length}
 use Rattle.parts.specs.Fold.{every}
 use Rattle.parts.specs.declared.kinds.Counts.{Counts}
-use Rattle.images.specs.Image.{wordCount, goodWord, goodImage}
-use Rattle.images.proofs.Good.{counted}
+use Rattle.images.specs.Image.{wordCount, goodImage}
+use Rattle.images.proofs.Good.{goodWord, counted}
 use Rattle.images.proofs.image.good_image.Statement.{statement}
 use Rattle.images.proofs.image.good_image.Tie as tie
 

@@ -6,7 +6,7 @@ use lib.ListN.{length}
 use Rattle.parts.specs.Fold.{every}
 use Rattle.parts.proofs.Folds.{none, finished}
 use Rattle.parts.proofs.Loops.{every-more}
-use Rattle.images.specs.Image.{goodWord}
+use Rattle.images.proofs.Good.{goodWord}
 use Rattle.images.proofs.image.good_words.Statement.{statement}
 use Rattle.images.proofs.image.good_words.Tie as tie
 

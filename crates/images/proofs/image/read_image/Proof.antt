@@ -11,7 +11,7 @@ use Rattle.images.specs.Image.{emptyUnits, goodImage, unitsOf, readImage
 use Rattle.images.specs.declared.image.Image.{Image}
 use Rattle.images.specs.declared.image.ImageAnswer.the-variants.{Done, OutOfRange, BadImage}
 use Rattle.images.proofs.Good.{in-range, not-in-range}
-use Rattle.images.proofs.Numbers.{read-number}
+use Rattle.images.proofs.Numbers.{image-number}
 use Rattle.images.proofs.image.read_image.Statement.{statement}
 use Rattle.images.proofs.image.read_image.Tie as tie
 
@@ -20,7 +20,7 @@ numbered :
     (c : Counts) (ws : List ℕ) (x : Image) →
     x ≡ readImage c ws →
     (x ≡ readImage c ws) × (imageNumber (x .answer) ≡ dueNumber c (goodImage c ws))
-numbered c ws x is = (is, ap (λ (y : Image). imageNumber (y .answer)) is ∙ read-number c ws)
+numbered c ws x is = (is, ap (λ (y : Image). imageNumber (y .answer)) is ∙ image-number c (goodImage c ws))
 
 module _ (c : Counts) (ws : List ℕ) (b : Bool) (xs : List LockUnit) (says : b ≡ inRange c) where
   outside : not b ≡ true → xs ≡ emptyUnits → _≡_ {A = Image} (record { units = xs; answer = OutOfRange }) (readImage c ws)

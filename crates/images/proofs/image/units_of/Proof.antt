@@ -12,9 +12,10 @@ use Rattle.parts.specs.declared.kinds.LockUnit.{LockUnit}
 use Rattle.parts.specs.declared.kinds.Register.{Register}
 use Rattle.parts.proofs.Folds.{none, more, finished}
 use Rattle.words.specs.Word.{registerOf}
-use Rattle.images.specs.Image.{emptyUnits, placeWord, goodImage, unitsOf}
+use Rattle.images.specs.Image.{emptyUnits, goodImage, unitsOf}
 use Rattle.images.proofs.Ranges.{divides, unit-in, unit-offset, core-in, core-small}
 use Rattle.images.proofs.Good.{word-total, word-good, word-in}
+use Rattle.images.proofs.Places.{placeWord}
 use Rattle.images.proofs.image.units_of.Statement.{statement}
 use Rattle.images.proofs.image.units_of.Tie as tie
 

@@ -9,11 +9,11 @@ use lib.ListN.{length}
 use Rattle.parts.specs.Range.{inRange}
 use Rattle.parts.specs.declared.kinds.Counts.{Counts}
 use Rattle.parts.specs.declared.kinds.LockUnit.{LockUnit}
-use Rattle.images.specs.Image.{writable, wordsInto, writeAnswer, writeLeft, imageNumber, dueNumber}
+use Rattle.images.specs.Image.{imageAnswer, writable, wordsInto, writeLeft, imageNumber, dueNumber}
 use Rattle.images.specs.declared.image.ImageAnswer.{ImageAnswer}
 use Rattle.images.specs.declared.image.ImageAnswer.the-variants.{Done, OutOfRange, BadImage}
 use Rattle.images.proofs.Good.{in-range, not-in-range}
-use Rattle.images.proofs.Numbers.{write-number}
+use Rattle.images.proofs.Numbers.{image-number}
 use Rattle.images.proofs.image.write_image.Statement.{statement}
 use Rattle.images.proofs.image.write_image.Tie as tie
 
@@ -21,12 +21,12 @@ module _ (c : Counts) (xs : List LockUnit) (out : List ℕ) where
   -- the answer, what the room holds, and the answer's number
   abbrev Leaves : ImageAnswer → List ℕ → Type 0
   Leaves x o =
-      (x ≡ writeAnswer c xs (length out))
+      (x ≡ imageAnswer c (writable c xs (length out)))
       × (o ≡ writeLeft c xs out)
       × (imageNumber x ≡ dueNumber c (writable c xs (length out)))
 
-  numbered : (x : ImageAnswer) (o : List ℕ) → x ≡ writeAnswer c xs (length out) → o ≡ writeLeft c xs out → Leaves x o
-  numbered x o is left = (is, left, ap imageNumber is ∙ write-number c xs (length out))
+  numbered : (x : ImageAnswer) (o : List ℕ) → x ≡ imageAnswer c (writable c xs (length out)) → o ≡ writeLeft c xs out → Leaves x o
+  numbered x o is left = (is, left, ap imageNumber is ∙ image-number c (writable c xs (length out)))
 
 module _ (c : Counts) (xs : List LockUnit) (out : List ℕ) (b : Bool) (says : b ≡ inRange c) where
   outside : not b ≡ true → Leaves c xs out OutOfRange out

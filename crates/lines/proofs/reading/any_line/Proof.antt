@@ -5,10 +5,10 @@ use mathlib.Core.Path.{_≡_, sym, _∙_, ap}
 use lib.ListN.{length}
 use borrow.Author.Tests.{lt-leb}
 use borrow.Author.Needs.{needs}
-use Rattle.lines.specs.Reading.{lineEnd, stepTo, readStep}
+use Rattle.lines.specs.Reading.{lineEnd, readStep}
 use Rattle.lines.specs.declared.reading.Ending.{Ending}
 use Rattle.lines.specs.declared.reading.StepLine.{StepLine}
-use Rattle.lines.proofs.Turns.{found-within}
+use Rattle.lines.proofs.Turns.{stepTo, found-within}
 use Rattle.lines.proofs.reading.any_line.Statement.{statement}
 use Rattle.lines.proofs.reading.any_line.Tie as tie
 
