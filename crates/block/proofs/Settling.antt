@@ -16,8 +16,8 @@ use Rattle.block.specs.Table.{unitOf, withUnit, withRegister, withCore}
 use Rattle.parts.specs.Answer.{packed}
 use Rattle.settling.specs.Line.{flags, next, won}
 use Rattle.settling.specs.Settle.{given}
-use Rattle.block.specs.Settle.{give, settleAt, SettledAt}
-use Rattle.block.proofs.Touched.{changed, freedTwo, settledUnit}
+use Rattle.block.specs.Settle.{winner, give}
+use Rattle.block.proofs.Touched.{SettledAt, settleAt, changed, freedTwo, settledUnit}
 use Rattle.parts.specs.declared.kinds.Register.{Register}
 use Rattle.parts.specs.declared.kinds.LockUnit.{LockUnit}
 use Rattle.parts.specs.declared.kinds.Core.{Core}
@@ -46,7 +46,10 @@ module _ (t : Table) (u : ℕ) (x : LockUnit) (at : unitOf (withUnit t u x) u �
   twice : (y : LockUnit) → withUnit before u y ≡ withUnit t u y
   twice y i = record { units = set-set (t .units) u x y i; cores = t .cores; counts = t .counts; counter = t .counter }
 
-  put-give : (w : Best) → give before u w ≡ put (given x w)
+  abbrev gave : Best → SettledAt
+  gave w = record { table = give before u w; winner = w }
+
+  put-give : (w : Best) → gave w ≡ put (given x w)
   put-give Nobody = refl
   put-give (Won k n) =
       (λ i. record { table = withUnit before u (registered (at i) (k .0) (flagged (registerIn (at i) (k .0)))); winner = Won k n }) ∙
@@ -54,9 +57,9 @@ module _ (t : Table) (u : ℕ) (x : LockUnit) (at : unitOf (withUnit t u x) u �
 
   put-settled : settleAt before u ≡ put (settledUnit x)
   put-settled =
-      ap (λ (z : LockUnit). cond (eqb (flags z) 0) (give before u (next z)) (give before u Nobody)) at ∙ go (eqb (flags x) 0)
+      ap (λ (z : LockUnit). gave (winner z)) at ∙ go (eqb (flags x) 0)
     where
-      go : (b : Bool) → cond b (give before u (next x)) (give before u Nobody) ≡ put (cond b (given x (next x)) (given x Nobody))
+      go : (b : Bool) → gave (cond b (next x) Nobody) ≡ put (cond b (given x (next x)) (given x Nobody))
       go true = put-give (next x)
       go false = put-give Nobody
 

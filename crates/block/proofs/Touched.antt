@@ -16,11 +16,12 @@ use Rattle.parts.specs.declared.answer.Answer.{Answer}
 use Rattle.parts.specs.declared.answer.Answer.the-variants.{Done}
 use Rattle.parts.specs.declared.answer.Grants.the-variants.{None}
 use Rattle.settling.specs.Line.{flags, next, won}
+use Rattle.settling.specs.declared.line.Best.{Best}
 use Rattle.settling.specs.declared.line.Best.the-variants.{Nobody}
 use Rattle.settling.specs.Settle.{given}
 use Rattle.settling.specs.declared.settle.Settled.{Settled}
 use Rattle.block.specs.Table.{unitOf, withRegister, withCore}
-use Rattle.block.specs.Settle.{settleAt}
+use Rattle.block.specs.Settle.{winner, give}
 use Rattle.block.specs.declared.table.Table.{Table}
 use Rattle.block.specs.declared.stepped.Stepped.{Stepped}
 
@@ -30,6 +31,14 @@ Calm x = flags x ≡ 0 → next x ≡ Nobody
 
 abbrev pub CalmTable : Table → Type 0
 CalmTable t = (u : ℕ) → u < units → Calm (unitOf t u)
+
+-- a table of which one unit settled, and the core that it granted
+pub record SettledAt : Type 0 where
+  pub table : Table
+  pub winner : Best
+
+abbrev pub settleAt : Table → ℕ → SettledAt
+settleAt t u = let w = winner (unitOf t u) in record { table = give t u w; winner = w }
 
 -- a step that touched nothing that settles
 abbrev pub unsettled : Table → Answer → Ticket → Stepped

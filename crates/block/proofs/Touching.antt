@@ -16,9 +16,9 @@ use Rattle.parts.specs.Parts.{cores, units, blank, flagged, absentUnit}
 use Rattle.block.specs.Table.{unitOf, registerOf, withUnit, withRegister}
 use Rattle.parts.specs.Answer.{packed}
 use Rattle.settling.specs.Line.{flags, inLine, next, won}
-use Rattle.block.specs.Settle.{give, settleAt, Settling, settleNext, settle, SettledAt}
+use Rattle.block.specs.Settle.{winner, give, Settling, settleNext, settle}
 use Rattle.block.specs.Steps.{settled, clear, giveUp}
-use Rattle.block.proofs.Touched.{Calm, CalmTable, unsettled, settledOne, settledTwo}
+use Rattle.block.proofs.Touched.{Calm, CalmTable, settleAt, unsettled, settledOne, settledTwo}
 use Rattle.parts.specs.declared.kinds.Register.{Register}
 use Rattle.parts.specs.declared.kinds.LockUnit.{LockUnit}
 use Rattle.block.specs.declared.table.Table.{Table}
@@ -59,7 +59,7 @@ by-settling t u P calm given = go (eqb (flags (unitOf t u)) 0) refl (next (unitO
     go :
         (b : Bool) → eqb (flags (unitOf t u)) 0 ≡ b →
         (w : Best) → next (unitOf t u) ≡ w →
-        P (cond b (give t u w) (give t u Nobody) .table)
+        P (give t u (cond b w Nobody))
     go true e Nobody q = calm (λ e'. q)
     go true e (Won k n) q =
         let w = next-won (unitOf t u) k n q in
@@ -70,21 +70,21 @@ pub settleAt-unit : (t : Table) (u v : ℕ) → v ≢ u → unitOf (settleAt t u
 settleAt-unit t u v d = by-settling t u (λ z. unitOf z v ≡ unitOf t v) (λ calm. refl) (λ k l e none. unit-other t u v _ d)
 
 -- a unit with nothing to settle
-settleAt-calm : (t : Table) (u : ℕ) → Calm (unitOf t u) → settleAt t u ≡ give t u Nobody
-settleAt-calm t u calm = go (eqb (flags (unitOf t u)) 0) refl
+calm-winner : (x : LockUnit) → Calm x → winner x ≡ Nobody
+calm-winner x calm = go (eqb (flags x) 0) refl
   where
-    go : (b : Bool) → eqb (flags (unitOf t u)) 0 ≡ b → cond b (give t u (next (unitOf t u))) (give t u Nobody) ≡ give t u Nobody
-    go true e = ap (give t u) (calm (eqb-true (flags (unitOf t u)) 0 e))
+    go : (b : Bool) → eqb (flags x) 0 ≡ b → cond b (next x) Nobody ≡ Nobody
+    go true e = calm (eqb-true (flags x) 0 e)
     go false e = refl
 
--- one more unit, by what it settled to
-after : Settling → ℕ → SettledAt → Settling
-after s u z = record { table = z .table; grants = s .grants ++ won u (z .winner) }
+-- one more unit, by who won it
+after : Settling → ℕ → Best → Settling
+after s u w = record { table = give (s .table) u w; grants = s .grants ++ won u w }
 
 calm-still : (s : Settling) (u : ℕ) → Calm (unitOf (s .table) u) → settleNext u s ≡ s
 unfolding after
 calm-still s u calm =
-    ap (after s u) (settleAt-calm (s .table) u calm) ∙
+    ap (after s u) (calm-winner (unitOf (s .table) u) calm) ∙
     (λ i. record { table = s .table; grants = append-nil (s .grants) i })
 
 -- where the units from a to n are calm, settling goes on from a to n without a change

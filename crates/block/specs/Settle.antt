@@ -8,32 +8,29 @@ use Rattle.ticket.specs.declared.kinds.Grant.{Grant}
 use Rattle.parts.specs.Fold.{upTo}
 use Rattle.parts.specs.Parts.{units, flagged}
 use Rattle.settling.specs.Line.{flags, next, won}
+use Rattle.parts.specs.declared.kinds.LockUnit.{LockUnit}
 use Rattle.settling.specs.declared.line.Best.{Best}
 use Rattle.settling.specs.declared.line.Best.the-variants.{Nobody, Won}
 use Rattle.block.specs.Table.{unitOf, registerOf, withRegister}
 use Rattle.block.specs.declared.table.Table.{Table}
 
--- a table of which one unit settled, and the core that it granted
-pub record SettledAt : Type 0 where
-  pub table : Table
-  pub winner : Best
+-- who wins a unit that settles: without a flag, its next in line
+abbrev pub winner : LockUnit → Best
+winner x = cond (eqb (flags x) 0) (next x) Nobody
 
 -- the flag of the core that won is set
-abbrev pub give : Table → ℕ → Best → SettledAt
-give t u Nobody = record { table = t; winner = Nobody }
-give t u (Won k n) = record { table = withRegister t u (k .0) (flagged (registerOf t u (k .0))); winner = Won k n }
-
--- one unit settles
-abbrev pub settleAt : Table → ℕ → SettledAt
-settleAt t u = cond (eqb (flags (unitOf t u)) 0) (give t u (next (unitOf t u))) (give t u Nobody)
+abbrev pub give : Table → ℕ → Best → Table
+give t u Nobody = t
+give t u (Won k n) = withRegister t u (k .0) (flagged (registerOf t u (k .0)))
 
 -- the table so far, and its grants by rising unit
 pub record Settling : Type 0 where
   pub table : Table
   pub grants : List Grant
 
+-- one unit settles
 abbrev pub settleNext : ℕ → Settling → Settling
-settleNext u s = record { table = settleAt (s .table) u .table; grants = s .grants ++ won u (settleAt (s .table) u .winner) }
+settleNext u s = let w = winner (unitOf (s .table) u) in record { table = give (s .table) u w; grants = s .grants ++ won u w }
 
 -- every unit settles
 abbrev pub settle : Table → Settling

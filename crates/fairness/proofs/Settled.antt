@@ -15,7 +15,7 @@ use Rattle.ticket.specs.declared.kinds.CoreNo.{CoreNo}
 use Rattle.parts.specs.Parts.{units, coreNo, blank, flagged, registerIn}
 use Rattle.block.specs.Table.{unitOf, registerOf, Shaped}
 use Rattle.settling.specs.Line.{flags, next}
-use Rattle.block.specs.Settle.{give, settleAt, settleNext, settle}
+use Rattle.block.specs.Settle.{winner, give, settleNext, settle}
 use Rattle.parts.specs.declared.kinds.Register.{Register}
 use Rattle.parts.specs.declared.kinds.LockUnit.{LockUnit}
 use Rattle.block.specs.declared.table.Table.{Table}
@@ -24,8 +24,9 @@ use Rattle.settling.specs.declared.line.Best.the-variants.{Nobody, Won}
 use Rattle.block.proofs.Access.{unit-same}
 use Rattle.parts.proofs.Along.{same-or-not, to-last, along}
 use Rattle.settling.proofs.Picking.{next-won}
+use Rattle.block.proofs.Touched.{settleAt}
 use Rattle.block.proofs.Touching.{settleAt-unit}
-use Rattle.laws.specs.Granting.{winner, Due}
+use Rattle.laws.specs.Granting.{Due}
 use Rattle.laws.proofs.Settling.{Kept, settleAt-shaped, settleAt-keeps}
 
 -- a unit after its winner got the flag
@@ -39,7 +40,7 @@ module _ (t : Table) (u : ℕ) (s : Shaped t) (h : u < units) where
     where
       go :
           (b : Bool) (w : Best) →
-          unitOf (cond b (give t u w) (give t u Nobody) .table) u ≡ given (unitOf t u) (cond b w Nobody)
+          unitOf (give t u (cond b w Nobody)) u ≡ given (unitOf t u) (cond b w Nobody)
       go true Nobody = refl
       go true (Won k n) = unit-same t u _ s h
       go false w = refl

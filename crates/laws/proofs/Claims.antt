@@ -64,6 +64,6 @@ step-grants t s shaped ok =
     record {
       whole = λ may. rw on (grants-listed t shaped ok s may);
       rise = rw on (grants-rising t shaped ok s);
-      classes = λ g h two. two-classes t shaped ok s g h (rw on at two);
+      classes = λ g h two. let c = two-classes t shaped ok s g h (rw on at two) in (c .first, c .low, c .high);
       awaited = λ g m. rw on (granted-waiting t shaped ok s g (rw on at m));
     }

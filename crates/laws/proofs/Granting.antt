@@ -5,7 +5,7 @@ use Prim.Native.Nat.{ℕ, suc, _≤_, _<_}
 use mathlib.Core.Bool.{Bool, true, false, cond, _&&_, _||_, not}
 use mathlib.Core.List.{List, [], _∷_, _++_, List·Memᴰ, List·Memᴰ·head, List·Memᴰ·tail, List·Memᴰ·not-nil, List·Memᴰ·eq-of-singleton, List·Memᴰ·append-cases, Memᴰ·append-left, Memᴰ·append-right}
 use mathlib.Core.Logic.{_⊎_, inl, inr, ⊎-elim, _≢_}
-use mathlib.Core.Path.{_≡_, refl, sym, _∙_, ap, ap₂, subst}
+use mathlib.Core.Path.{_≡_, refl, sym, _∙_, ap, subst}
 use native.Mathlib.Nat.{not-suc-le-zero}
 use native.Mathlib.Omega.{arith}
 use lib.Dec.{eqb}
@@ -19,11 +19,11 @@ use Rattle.parts.specs.State.{stands, twoStage, waits}
 use Rattle.parts.specs.Parts.{cores, units, unitNo, standing, idle, registerIn}
 use Rattle.block.specs.Table.{coreOf, unitOf, registerOf, unitCount, withRegister, withCore, withCounter, Shaped}
 use Rattle.parts.specs.Answer.{packed}
-use Rattle.block.specs.Settle.{Settling, give, settleAt, settleNext, settle}
+use Rattle.block.specs.Settle.{winner, Settling, settleNext, settle}
 use Rattle.settling.specs.Line.{flags, inLine, next, won}
 use Rattle.block.specs.Sound as S
 use Rattle.block.specs.Sound.{sound}
-use Rattle.laws.specs.Granting.{listed, Rising, Classes, winner, Due, DueIn, anyInLine}
+use Rattle.laws.specs.Granting.{listed, Rising, Due, DueIn, anyInLine}
 use Rattle.block.specs.Steps.{giveUp, awaited, onSound, answered, refusal, verdict, moves, performed}
 use Rattle.block.proofs.Touched.{Calm, CalmTable}
 use Rattle.parts.specs.declared.kinds.Core.{Core}
@@ -51,17 +51,10 @@ use Rattle.settling.proofs.Picking.{next-won, nobody-next}
 use Rattle.laws.proofs.Settling.{settle-same}
 use Rattle.block.proofs.Standing.{sound-calm}
 use Rattle.block.proofs.Stepping.{calm-elsewhere, first-unit, second-unit, clears-one, clears-two, one-calm, two-calm, inherited, poll-moves, carrying-calm, awaited-second}
+use Rattle.block.proofs.Touched.{settleAt}
 use Rattle.block.proofs.Touching.{settle-none, settle-one, settle-two, settleAt-unit}
 
 -- Who wins a unit
-
-settleAt-winner : (t : Table) (u : ℕ) → settleAt t u .winner ≡ winner (unitOf t u)
-settleAt-winner t u = go (eqb (flags (unitOf t u)) 0) (next (unitOf t u))
-  where
-    go : (b : Bool) (w : Best) → cond b (give t u w) (give t u Nobody) .winner ≡ cond b w Nobody
-    go true Nobody = refl
-    go true (Won k n) = refl
-    go false w = refl
 
 module _ (x : LockUnit) (n : ℕ) (g : Grant) where
   won-due : List·Memᴰ g (won n (winner x)) → (g .unit .0 ≡ n) × Due x (g .core)
@@ -124,22 +117,22 @@ module _ (t : Table) where
         due = λ g m. ⊎-elim (before g) (last g) (List·Memᴰ·append-cases (z .grants) m);
         all = λ g h d. all g h d (same-or-not (g .unit .0) n);
         rising =
-            rising-join (z .grants) (won n (settleAt (z .table) n .winner)) (s .rising) (won-rising n (settleAt (z .table) n .winner))
+            rising-join (z .grants) (won n (winner (unitOf (z .table) n))) (s .rising) (won-rising n (winner (unitOf (z .table) n)))
             (λ g h a b. omega (arith, s .due g a .0, at-n h b .0));
       }
     where
-      here : settleAt (z .table) n .winner ≡ winner (unitOf t n)
-      here = settleAt-winner (z .table) n ∙ ap winner (s .ahead n (omega arith))
+      here : winner (unitOf (z .table) n) ≡ winner (unitOf t n)
+      here = ap winner (s .ahead n (omega arith))
 
       before : (g : Grant) → List·Memᴰ g (z .grants) → (g .unit .0 < suc n) × Due (unitOf t (g .unit .0)) (g .core)
       before g m = let d = s .due g m in (omega arith, d .1)
 
-      at-n : (g : Grant) → List·Memᴰ g (won n (settleAt (z .table) n .winner)) → (g .unit .0 ≡ n) × Due (unitOf t n) (g .core)
+      at-n : (g : Grant) → List·Memᴰ g (won n (winner (unitOf (z .table) n))) → (g .unit .0 ≡ n) × Due (unitOf t n) (g .core)
       at-n g m = won-due (unitOf t n) n g (subst (λ (b : Best). List·Memᴰ g (won n b)) here m)
 
       last :
           (g : Grant) →
-          List·Memᴰ g (won n (settleAt (z .table) n .winner)) →
+          List·Memᴰ g (won n (winner (unitOf (z .table) n))) →
           (g .unit .0 < suc n) × Due (unitOf t (g .unit .0)) (g .core)
       last g m =
           let d = at-n g m in
@@ -156,7 +149,7 @@ module _ (t : Table) where
           Memᴰ·append-right (z .grants)
           (subst (λ (b : Best). List·Memᴰ g (won n b)) (sym here)
           (due-won (unitOf t n) n g e (subst (λ (u : ℕ). Due (unitOf t u) (g .core)) e d)))
-      all g h d (inr q) = Memᴰ·append-left (won n (settleAt (z .table) n .winner)) (s .all g (omega arith) d)
+      all g h d (inr q) = Memᴰ·append-left (won n (winner (unitOf (z .table) n))) (s .all g (omega arith) d)
 
   settled-to : SettledTo t units (settle t)
   unfolding Rising
@@ -260,7 +253,7 @@ settled-waiting t a g m =
 module _ (t : Table) (u : ℕ) (h : u < units) where
   pub settle-at-one :
       ((v : ℕ) → v < units → v ≢ u → Calm (unitOf t v)) → settle t .grants ≡ won u (winner (unitOf t u))
-  settle-at-one calm = ap (λ (z : Settling). z .grants) (settle-one t u h calm) ∙ ap (won u) (settleAt-winner t u)
+  settle-at-one calm = ap (λ (z : Settling). z .grants) (settle-one t u h calm)
 
   pub settle-at-two :
       (w : ℕ) →
@@ -270,8 +263,13 @@ module _ (t : Table) (u : ℕ) (h : u < units) where
       settle t .grants ≡ won u (winner (unitOf t u)) ++ won w (winner (unitOf t w))
   settle-at-two w l m calm =
       ap (λ (z : Settling). z .grants) (settle-two t u h w l m calm) ∙
-      ap₂ (λ (a b : Best). won u a ++ won w b) (settleAt-winner t u)
-      (settleAt-winner (settleAt t u .table) w ∙ ap winner (settleAt-unit t u w (λ e. omega arith)))
+      ap (λ (x : LockUnit). won u (winner (unitOf t u)) ++ won w (winner x)) (settleAt-unit t u w (λ e. omega arith))
+
+-- the first of two grants is of a first-class unit, the second of a second-class one
+pub record Classes (t : Table) (g h : Grant) : Type 0 where
+  pub first : g .unit .0 < t .counts .first
+  pub low : t .counts .first ≤ h .unit .0
+  pub high : h .unit .0 < unitCount t
 
 -- at most two grants, and two only of a unit of each class
 record Brief (t : Table) (l : List Grant) : Type 0 where

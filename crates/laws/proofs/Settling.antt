@@ -14,7 +14,7 @@ use Rattle.parts.specs.Fold.{some, count, one}
 use Rattle.parts.specs.State.{stands, twoStage, holdsFirst, holdsBoth}
 use Rattle.parts.specs.Parts.{cores, units, flagged, registerIn}
 use Rattle.block.specs.Table.{coreOf, unitOf, registerOf, withRegister, Shaped}
-use Rattle.block.specs.Settle.{Settling, settleAt, settleNext, settle}
+use Rattle.block.specs.Settle.{Settling, settleNext, settle}
 use Rattle.settling.specs.Line.{flags, inLine}
 use Rattle.block.specs.Sound as S
 use Rattle.block.specs.Parts.{Sound}
@@ -31,6 +31,7 @@ use Rattle.laws.proofs.Almost.{Almost}
 use Rattle.laws.proofs.Agreeing.{flag-at, in-line}
 use Rattle.settling.proofs.Picking.{nobody-next}
 use Rattle.block.proofs.Standing.{blank-is}
+use Rattle.block.proofs.Touched.{settleAt}
 use Rattle.block.proofs.Touching.{by-settling, settleAt-unit}
 
 -- A register that gets its flag

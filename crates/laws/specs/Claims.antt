@@ -1,5 +1,5 @@
 -- Demands 1 and 2, of a step: what holds of every step of every table that a program holds.
-use Prim.Native.Nat.{_≤_}
+use Prim.Native.Nat.{_≤_, _<_}
 use mathlib.Core.Bool.{true}
 use mathlib.Core.List.{List·Memᴰ}
 use mathlib.Core.Path.{_≡_}
@@ -11,13 +11,13 @@ use Rattle.parts.specs.declared.kinds.Counts.{Counts}
 use Rattle.parts.specs.declared.answer.Step.{Step}
 use Rattle.parts.specs.declared.answer.Grants.the-variants.{Two}
 use Rattle.refusals.specs.declared.verdict.Verdict.the-variants.{Allowed}
-use Rattle.block.specs.Table.{coreOf, Shaped}
+use Rattle.block.specs.Table.{coreOf, unitCount, Shaped}
 use Rattle.block.specs.Sound.{sound}
 use Rattle.block.specs.Settle.{settle}
 use Rattle.block.specs.Steps.{verdict, awaited, moves, refusal, step}
 use Rattle.block.specs.declared.table.Table.{Table}
 use Rattle.building.specs.Build.{build}
-use Rattle.laws.specs.Granting.{listed, Rising, Classes}
+use Rattle.laws.specs.Granting.{listed, Rising}
 
 -- a table that was built is sound, and has its arrays' lengths
 abbrev pub BuiltSound : Type 0
@@ -38,7 +38,9 @@ pub record GrantsOf (t : Table) (s : Step) : Type 0 where
   -- "by rising unit"
   pub rise : Rising (listed (step t s .grants))
   -- "two are one first-class and one second-class unit"
-  pub classes : (g h : Grant) → step t s .grants ≡ Two g h → Classes t g h
+  pub classes :
+      (g h : Grant) →
+      step t s .grants ≡ Two g h → (g .unit .0 < t .counts .first) × (t .counts .first ≤ h .unit .0) × (h .unit .0 < unitCount t)
   -- "each grant goes to a core that stands there waiting"
   pub awaited :
       (g : Grant) → List·Memᴰ g (listed (step t s .grants)) →

@@ -1,20 +1,18 @@
--- What is said of the grants of a step: their list, its order, their classes, and when a grant is due.
-use Prim.Native.Nat.{ℕ, _≤_, _<_}
-use mathlib.Core.Bool.{Bool, cond}
+-- What is said of the grants of a step: their list, its order, and when a grant is due.
+use Prim.Native.Nat.{ℕ, _<_}
+use mathlib.Core.Bool.{Bool}
 use mathlib.Core.List.{List, [], _∷_, List·Memᴰ}
 use mathlib.Core.Path.{_≡_}
-use lib.Dec.{eqb}
 use Rattle.ticket.specs.declared.kinds.CoreNo.{CoreNo}
 use Rattle.ticket.specs.declared.kinds.Grant.{Grant}
 use Rattle.ticket.specs.declared.kinds.Ticket.{Ticket}
 use Rattle.parts.specs.Fold.{some}
 use Rattle.parts.specs.Parts.{cores, units, registerIn}
-use Rattle.block.specs.Table.{unitOf, unitCount}
+use Rattle.block.specs.Table.{unitOf}
 use Rattle.settling.specs.Line.{flags, inLine, next}
 use Rattle.parts.specs.declared.kinds.LockUnit.{LockUnit}
 use Rattle.block.specs.declared.table.Table.{Table}
-use Rattle.settling.specs.declared.line.Best.{Best}
-use Rattle.settling.specs.declared.line.Best.the-variants.{Nobody, Won}
+use Rattle.settling.specs.declared.line.Best.the-variants.{Won}
 use Rattle.parts.specs.declared.answer.Grants.{Grants}
 use Rattle.parts.specs.declared.answer.Grants.the-variants.{None, One, Two}
 
@@ -25,16 +23,6 @@ listed gs = elim gs [ None ↦ [] | One g ↦ g ∷ [] | Two g h ↦ g ∷ h ∷
 unfoldable pub Rising : List Grant → Type 0
 Rising [] = Unit {0}
 Rising (g ∷ more) = ((h : Grant) → List·Memᴰ h more → g .unit .0 < h .unit .0) × Rising more
-
--- the first of two grants is of a first-class unit, the second of a second-class one
-pub record Classes (t : Table) (g h : Grant) : Type 0 where
-  pub first : g .unit .0 < t .counts .first
-  pub low : t .counts .first ≤ h .unit .0
-  pub high : h .unit .0 < unitCount t
-
--- who wins a unit that settles: without a flag, its next in line
-abbrev pub winner : LockUnit → Best
-winner x = cond (eqb (flags x) 0) (next x) Nobody
 
 -- the unit has no flag set, and the core is its next in line
 pub record Due (x : LockUnit) (k : CoreNo) : Type 0 where
