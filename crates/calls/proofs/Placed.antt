@@ -71,7 +71,7 @@ module _ (s : List ℕ) (at : ℕ) where
     header-in : readHeader s at ≡ headerOn at (readHeader (drop at s) 0)
     header-in = at-place readHeader (λ k. headerOn k (readHeader (drop at s) 0)) (header-on pre (drop at s) 0)
 
-  past-placed : leb (length s) at ≡ leb (length (drop at s)) 0
+  pub past-placed : leb (length s) at ≡ leb (length (drop at s)) 0
   past-placed = go (leb (length s) at) refl
     where
       go : (t : Bool) → leb (length s) at ≡ t → t ≡ leb (length (drop at s)) 0
@@ -85,7 +85,7 @@ module _ (s : List ℕ) (at : ℕ) where
       go true e = read-past (leb-true (length s) at e)
       go false e = let h = leb-false (length s) at e in read-in (omega arith)
 
-  header-placed : readHeader s at ≡ headerOn at (readHeader (drop at s) 0)
+  pub header-placed : readHeader s at ≡ headerOn at (readHeader (drop at s) 0)
   header-placed = go (leb (length s) at) refl
     where
       go : (t : Bool) → leb (length s) at ≡ t → readHeader s at ≡ headerOn at (readHeader (drop at s) 0)

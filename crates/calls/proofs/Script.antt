@@ -32,7 +32,7 @@ use Rattle.headers.proofs.Numbers.{headerTo}
 
 -- More bytes after the script
 
-ending-more : (f i e : ℕ) (bs more : List ℕ) → ending f i bs ≡ At e → ending f i (bs ++ more) ≡ At e
+pub ending-more : (f i e : ℕ) (bs more : List ℕ) → ending f i bs ≡ At e → ending f i (bs ++ more) ≡ At e
 unfolding ending
 ending-more zero i e bs more is = is
 ending-more (suc f) i e [] more is = let z : _≡_ {A = ℕ} 0 1 = cc in absurd (omega arith)
@@ -120,7 +120,7 @@ module _ (s more : List ℕ) (at : ℕ) where
 
 -- Bytes before the script
 
-abbrev endingOn : ℕ → Ending → Ending
+abbrev pub endingOn : ℕ → Ending → Ending
 endingOn k (At e) = At (k + e)
 endingOn k Long = Long
 endingOn k Short = Short
@@ -137,7 +137,7 @@ headerOn k (Header c n next) = Header c n (k + next)
 headerOn k NoHeader = NoHeader
 headerOn k CutHeader = CutHeader
 
-ending-on : (k f i : ℕ) (bs : List ℕ) → ending f (k + i) bs ≡ endingOn k (ending f i bs)
+pub ending-on : (k f i : ℕ) (bs : List ℕ) → ending f (k + i) bs ≡ endingOn k (ending f i bs)
 unfolding ending
 ending-on k zero i bs = refl
 ending-on k (suc f) i [] = refl

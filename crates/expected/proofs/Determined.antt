@@ -6,6 +6,7 @@ use Rattle.ticket.specs.Determined.{Determines, DeterminesLeft}
 use Rattle.expected.proofs.writer.write_expected.Reads as write-expected
 use Rattle.expected.proofs.writer.expected_fits.Reads as expected-fits
 use Rattle.expected.proofs.writer.put_expected.Reads as put-expected
+use Rattle.expected.proofs.writer.put_shown.Reads as put-shown
 
 pub write-expected-determined : Determines write-expected.Post
 write-expected-determined κs a x y s t p q = p .0 ∙ sym (q .0)
@@ -21,3 +22,9 @@ put-expected-determined κs a x y s t p q = p .goes ∙ sym (q .goes)
 
 pub put-expected-left : DeterminesLeft (λ κs s. now (s .0)) put-expected.Post
 put-expected-left κs a x y s t p q = p .holds ∙ sym (q .holds)
+
+pub put-shown-determined : Determines put-shown.Post
+put-shown-determined κs a x y s t p q = p .goes ∙ sym (q .goes)
+
+pub put-shown-left : DeterminesLeft (λ κs s. now (s .0)) put-shown.Post
+put-shown-left κs a x y s t p q = p .holds ∙ sym (q .holds)

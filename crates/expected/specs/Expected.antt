@@ -23,5 +23,9 @@ grantBytes g = tabbed (g .unit .0) ++ tabbed (g .core .0)
 abbrev pub grantsBytes : Grants → List ℕ
 grantsBytes gs = elim gs [ None ↦ tabbed 0 | One g ↦ tabbed 1 ++ grantBytes g | Two g h ↦ tabbed 2 ++ (grantBytes g ++ grantBytes h) ]
 
+-- what a line has behind the step's number
+abbrev pub shownBytes : Answer → Ticket → Grants → List ℕ
+shownBytes a n g = tabbed (numberOf a) ++ (tabbed (n .0) ++ (grantsBytes g ++ (end ∷ [])))
+
 abbrev pub expectedBytes : ℕ → Answer → Ticket → Grants → List ℕ
-expectedBytes i a n g = decimal i ++ (tabbed (numberOf a) ++ (tabbed (n .0) ++ (grantsBytes g ++ (end ∷ []))))
+expectedBytes i a n g = decimal i ++ shownBytes a n g

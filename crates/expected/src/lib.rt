@@ -7,4 +7,5 @@ mod writer;
 pub use writer::EXPECTED_MOST;
 pub use writer::expected_fits;
 pub use writer::put_expected;
+pub use writer::put_shown;
 pub use writer::write_expected;

@@ -21,7 +21,7 @@ ghost use lib.ListN.{length};
 ghost use Rattle.parts.specs.Answer.{numberOf};
 ghost use Rattle.digits.specs.Text.{tabbed, Puts};
 ghost use Rattle.digits.specs.Room.{wrote, left, writtenNumber, writeNumber};
-ghost use Rattle.expected.specs.Expected.{grantBytes, grantsBytes, expectedBytes};
+ghost use Rattle.expected.specs.Expected.{grantBytes, grantsBytes, shownBytes, expectedBytes};
 
 // The longest expected line of a run, with its end.
 pub const EXPECTED_MOST: usize = 27;
@@ -150,7 +150,15 @@ pub fn put_expected(
     ensures { λ r. ⌜ Puts (now (out .entry)) (now (out .exit)) at r (expectedBytes step answer ticket grants) ⌝ }
 {
     let stepped = put_number(out, at, step);
-    let answered = put_answer(out, stepped, answer);
+    put_shown(out, stepped, answer, ticket, grants)
+}
+
+// Seam: what an expected line has behind the step's number, where there is room.
+pub fn put_shown(out: &mut [u8], at: usize, answer: Answer, ticket: Ticket, grants: Grants) -> usize
+    requires { ⌜ at + length (shownBytes answer ticket grants) ≤ length (now out) ⌝ }
+    ensures { λ r. ⌜ Puts (now (out .entry)) (now (out .exit)) at r (shownBytes answer ticket grants) ⌝ }
+{
+    let answered = put_answer(out, at, answer);
     let ticketed = put_ticket(out, answered, ticket.0);
     let granted = put_grants(out, ticketed, grants);
     out[granted] = b'\n';

@@ -3,3 +3,4 @@ pub mod Chains
 pub mod Counted
 pub mod Reached
 pub mod Determined
+pub mod Holding

@@ -237,6 +237,13 @@ module _ (t : Table) (x : Step) (held : Held t) (ok : sound t ≡ true) (may : v
   performed-placed : Placed (performed t x .grants)
   performed-placed = rw (accepted t x may) at (grants-placed (onSound t x .grants) refl)
 
+-- what a step gives: its ticket has sixteen bits, and its grants are of units and cores
+pub step-placed : (t : Table) (x : Step) → Held t → sound t ≡ true → (step t x .ticket .0 < circle) × Placed (step t x .grants)
+step-placed t x held ok =
+    by-verdict t x (λ (y : Stepped). (y .ticket .0 < circle) × Placed (y .grants)) ok
+    (λ may. (effect-small t held ok x may .ticket, performed-placed t x held ok may))
+    (λ a. (omega arith, tt))
+
 pub line-most : LineMost
 line-most t x i held ok few =
     by-verdict t x (λ (y : Stepped). length (expectedBytes i (y .answer) (y .ticket) (y .grants)) ≤ expectedMost) ok

@@ -50,7 +50,7 @@ ending-plain (suc f) i (x ∷ xs) more p h =
     let z : i + 1 + length xs ≡ i + suc (length xs) = omega arith in
     rw (ne-eqb x end (p .0)) (ending-plain f (i + 1) xs more (p .1) (omega arith) ∙ ap At z)
 
-plain-append : (xs ys : List ℕ) → Plain xs → Plain ys → Plain (xs ++ ys)
+pub plain-append : (xs ys : List ℕ) → Plain xs → Plain ys → Plain (xs ++ ys)
 plain-append [] ys p q = q
 plain-append (x ∷ xs) ys p q = (p .0, plain-append xs ys (p .1) q)
 
@@ -58,7 +58,7 @@ plain-digits : (xs : List ℕ) → AllDigits xs → Plain xs
 plain-digits [] p = tt
 plain-digits (x ∷ xs) p = ((λ e. omega (arith, p .0)), plain-digits xs (p .2))
 
-plain-tabbed : (n : ℕ) → Plain (tabbed n)
+pub plain-tabbed : (n : ℕ) → Plain (tabbed n)
 plain-tabbed n = ((λ e. omega arith), plain-digits (decimal n) (digits-all 10 n))
 
 -- a line, its end with it, in the middle of other bytes: where it ends, and what stands before its end
@@ -99,11 +99,11 @@ module _ (pre post line body : List ℕ) (whole : line ≡ body ++ (end ∷ []))
 -- The numbers of a line
 
 module _ (s : List ℕ) (i n : ℕ) (most : n ≤ numberMost) where
-  field-last : drop i s ≡ decimal n → field s i ≡ Last n
+  pub field-last : drop i s ≡ decimal n → field s i ≡ Last n
   unfolding scan
   field-last e = rw (e ∙ sym (append-nil (decimal n))) (scan-digits n i [] most)
 
-  field-then :
+  pub field-then :
       (rest : List ℕ) →
       drop i s ≡ decimal n ++ (tab ∷ rest) →
       (field s i ≡ Then n (i + length (decimal n) + 1)) × (drop (i + length (decimal n) + 1) s ≡ rest)

@@ -1,99 +1,46 @@
--- `expected::writer::put_expected` meets its contract: the step, the answer, the ticket, the grants and the end, one after another.
-use borrow.Author.Needs.{needs}
-use Prim.Native.Nat.{ℕ, _+_, _<_, _≤_}
-use mathlib.Core.List.{List, [], _∷_, _++_}
-use mathlib.Core.Path.{_≡_, refl, _∙_}
-use native.Mathlib.Omega.{arith}
-use lib.ListN.{length, set, length-set}
+-- `expected::writer::put_expected` meets its contract: the step's number, and what stands behind it.
+use Prim.Native.Nat.{ℕ, _+_, _≤_}
+use mathlib.Core.List.{List}
+use mathlib.Core.Path.{_≡_}
+use lib.ListN.{length}
 use Rattle.ticket.specs.declared.kinds.Ticket.{Ticket}
-use Rattle.parts.specs.Answer.{numberOf}
 use Rattle.parts.specs.declared.answer.Answer.{Answer}
 use Rattle.parts.specs.declared.answer.Grants.{Grants}
 use Rattle.numbers.specs.Number.{decimal}
-use Rattle.numbers.specs.Bytes.{end}
-use Rattle.digits.specs.Text.{tabbed, Puts}
-use Rattle.expected.specs.Expected.{grantsBytes, expectedBytes}
-use Rattle.digits.proofs.Pasting.{one, then, kept, first, rest}
+use Rattle.digits.specs.Text.{Puts}
+use Rattle.expected.specs.Expected.{shownBytes, expectedBytes}
+use Rattle.digits.proofs.Pasting.{then, kept, first, rest}
 use Rattle.expected.proofs.writer.put_expected.Statement.{statement}
 use Rattle.expected.proofs.writer.put_expected.Tie as tie
-
--- what stands after the answer, and after the step
-abbrev ticketed : Ticket → Grants → List ℕ
-ticketed n g = tabbed (n .0) ++ (grantsBytes g ++ (end ∷ []))
-
-abbrev answered : Answer → Ticket → Grants → List ℕ
-answered a n g = tabbed (numberOf a) ++ ticketed n g
 
 module _
     (o : List ℕ) (at i : ℕ) (a : Answer) (n : Ticket) (g : Grants)
     (room : at + length (expectedBytes i a n g) ≤ length o) where
   step-fits : at + length (decimal i) ≤ length o
-  step-fits = first o at (decimal i) (answered a n g) room
+  step-fits = first o at (decimal i) (shownBytes a n g) room
 
   module _ (m : List ℕ) (p : ℕ) (b : Puts o m at p (decimal i)) where
-    after-step : p + length (answered a n g) ≤ length m
-    after-step = rest b (answered a n g) room
+    shown-fits : p + length (shownBytes a n g) ≤ length m
+    shown-fits = rest b (shownBytes a n g) room
 
-    answer-fits : p + length (tabbed (numberOf a)) ≤ length m
-    answer-fits = first m p (tabbed (numberOf a)) (ticketed n g) after-step
+    module _ (f : List ℕ) (q : ℕ) (d : Puts m f p q (shownBytes a n g)) where
+      whole : Puts o f at q (expectedBytes i a n g)
+      whole = then b d
 
-    module _ (f : List ℕ) (q : ℕ) (d : Puts m f p q (tabbed (numberOf a))) where
-      after-answer : q + length (ticketed n g) ≤ length f
-      after-answer = rest d (ticketed n g) after-step
-
-      ticket-fits : q + length (tabbed (n .0)) ≤ length f
-      ticket-fits = first f q (tabbed (n .0)) (grantsBytes g ++ (end ∷ [])) after-answer
-
-      module _ (l : List ℕ) (r : ℕ) (e : Puts f l q r (tabbed (n .0))) where
-        after-ticket : r + length (grantsBytes g ++ (end ∷ [])) ≤ length l
-        after-ticket = rest e (grantsBytes g ++ (end ∷ [])) after-answer
-
-        grants-fit : r + length (grantsBytes g) ≤ length l
-        grants-fit = first l r (grantsBytes g) (end ∷ []) after-ticket
-
-        module _ (j : List ℕ) (s : ℕ) (h : Puts l j r s (grantsBytes g)) where
-          end-fits : s < length j
-          end-fits = omega (arith, rest h (end ∷ []) after-ticket)
-
-          whole : Puts o (set j s end) at (s + 1) (expectedBytes i a n g)
-          whole = then b (then d (then e (then h (one j s end (s + 1) refl end-fits))))
-
-          ended-kept : (w : ℕ) → length (set j s w) ≡ length o
-          ended-kept w = length-set j s w ∙ kept (then b (then d (then e h)))
+      whole-kept : length f ≡ length o
+      whole-kept = kept (then b d)
 
 put-number-requires : tie.Need-put-number-requires
 put-number-requires c κs = search step-fits
 
-put-answer-requires : tie.Need-put-answer-requires
-put-answer-requires c κs = search answer-fits
-
-put-ticket-requires : tie.Need-put-ticket-requires
-put-ticket-requires c κs = search ticket-fits
-
-put-grants-requires : tie.Need-put-grants-requires
-put-grants-requires c κs = search grants-fit
-
-slice-write-out : tie.Need-slice-write-out
-slice-write-out c = search end-fits
-
-add-result : tie.Need-add-result
-add-result c = search needs
+put-shown-requires : tie.Need-put-shown-requires
+put-shown-requires c κs = search shown-fits
 
 same-length : tie.Need-same-length
-same-length c = search ended-kept
+same-length c = search whole-kept
 
 returns : tie.Need-returns
 returns c = search whole
 
 pub put-expected-spec : {M : Type 1} → statement M
-put-expected-spec =
-    tie.close
-    (tie.spec
-    put-number-requires
-    put-answer-requires
-    put-ticket-requires
-    put-grants-requires
-    slice-write-out
-    add-result
-    same-length
-    returns)
+put-expected-spec = tie.close (tie.spec put-number-requires put-shown-requires same-length returns)
