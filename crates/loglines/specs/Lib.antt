@@ -1,0 +1,3 @@
+pub mod Log
+pub mod Parts
+pub mod Quick

@@ -1,0 +1,7 @@
+pub mod Steady
+pub mod Accepted
+pub mod Judging
+pub mod Turning
+pub mod Meeting
+pub mod Going
+pub mod Determined
