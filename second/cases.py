@@ -9,6 +9,12 @@ COLUMNS = (
     "E 3 1 1 65535; 1 0 65535 1 1 0; 2 1 65535 0; 3 0 0 1 0 2; 4 0 1 0; 5 0 0 1 0 1; 6 1 1 0; 7 0 1 0; 8 0 0 0; 9 2 0 0; "
     "10 14 0 0; 11 0 65535 1 1 1; 12 1 0 0; 13 0 1 1 0 2"
 )
+# the same run as a log, and one in which a release gives two grants
+LOG = (
+    "T 3 1 1 65535; R 0 1 0 65535 1 1 0; P 0 1 65535 0; R 2 0 0 0 1 0 2; R 1 0 0 1 0; I 2 0 0 1 0 1; P 1 1 1 0; N 1 1 0 1 0; C 2 0 0 0; "
+    "P 1 2 0 0; I 0 14 0 0; L 0 0 65535 1 1 1; P 1 1 0 0; L 1 0 1 1 0 2"
+)
+TWO = "T 3 1 1 5; R 0 0 0 5 1 0 0; P 0 1 5 0; N 0 1 0 5 1 1 0; P 0 1 5 0; R 1 0 0 6 0; R 2 1 0 7 0; L 0 0 5 2 0 1 1 2"
 cases, answers = [], []
 
 
@@ -25,7 +31,6 @@ def script(bytes_, answer):
     add(b"T" + struct.pack("<H", len(bytes_)) + bytes_, answer + b"--\n")
 
 
-
 def lent(room, bytes_, number, columns):
     """One call with so many bytes lent: the stop's number, and the lines that fit whole."""
     wrote = 0
@@ -35,6 +40,116 @@ def lent(room, bytes_, number, columns):
             break
         wrote += len(line)
     add(b"B" + struct.pack("<HH", room, len(bytes_)) + bytes_, b"B\t%d\t%d\n" % (number, wrote))
+
+
+def log(bytes_, answer):
+    add(b"G" + struct.pack("<H", len(bytes_)) + bytes_, text("G " + answer))
+
+
+def logs():
+    """Logs: 0 and the steps; 40, line and field; or another stop's number and line."""
+    log(text(LOG), "0 13")
+    log(text(TWO), "0 7")
+    log(b"T\t8\t8\t8\t65535\n", "0 0")
+    # refused steps agree like others
+    log(text("T 1 1 0 7; P 0 12 0 0; R 1 0 10 0 0; N 0 65535 11 0 0; R 0 0 0 7 1 0 0"), "0 4")
+    # the header: 14 bytes are looked at, whatever comes after them
+    log(b"", "22 1")
+    log(b"T\t8\t8\t8\t65535", "22 1")
+    log(b"T\t8\t8\t8\t655350", "20 1")
+    log(b"T\t3\t1\t1\t0000001\n" + text("P 0 12 0 0"), "20 1")
+    log(b"\n", "20 1")
+    log(text("T 9 1 1 0; P 0 12 0 0"), "20 1")
+    log(text("T 3 1 1 0 0; P 0 12 0 0"), "20 1")
+    log(text("E 3 1 1 0; P 0 12 0 0"), "20 1")
+    log(text("P 0 12 0 0"), "20 1")
+    # each field of the release's line, another number than the one given
+    lines = TWO.rpartition("; ")[0] + "; "
+    for last, answer in [
+        ("L 0 1 5 2 0 1 1 2", "40 8 3"),
+        ("L 0 0 6 2 0 1 1 2", "40 8 4"),
+        ("L 0 0 5 1 0 1 1 2", "40 8 5"),
+        ("L 0 0 5 2 1 1 1 2", "40 8 6"),
+        ("L 0 0 5 2 0 2 1 2", "40 8 7"),
+        ("L 0 0 5 2 0 1 0 2", "40 8 8"),
+        ("L 0 0 5 2 0 1 1 1", "40 8 9"),
+        # the first that is off, though others are as well
+        ("L 0 0 5 2 1 2 0 1", "40 8 6"),
+        ("L 0 12 0 0", "40 8 3"),
+        # missing, and too many
+        ("L 0", "40 8 3"),
+        ("L 0 0", "40 8 4"),
+        ("L 0 0 5", "40 8 5"),
+        ("L 0 0 5 2", "40 8 6"),
+        ("L 0 0 5 2 0", "40 8 7"),
+        ("L 0 0 5 2 0 1", "40 8 8"),
+        ("L 0 0 5 2 0 1 1", "40 8 9"),
+        ("L 0 0 5 2 0 1 1 2 0", "40 8 10"),
+        ("L 0 0 5 2 0 1 1 2 0 3", "40 8 10"),
+        ("L 0 0 5 3 0 1 1 2 0 3", "40 8 5"),
+        # another step, by what that one gives: core 1 waits, and core 0 holds both
+        ("L 1 0 5 2 0 1 1 2", "40 8 3"),
+        ("L 1 12 0 0", "0 7"),
+        ("P 1 2 6 0", "0 7"),
+        ("P 0 12 0 0", "0 7"),
+        ("I 0 14 0 0; L 0 0 5 2 0 1 1 2", "0 8"),
+        ("C 0 12 0 0 0", "40 8 6"),
+        # not a step, or not a number
+        ("Q 0 0 5 2 0 1 1 2", "21 8"),
+        ("T 3 1 1 5", "21 8"),
+        ("LL 0 0 5 2 0 1 1 2", "21 8"),
+        ("L", "21 8"),
+        ("R 0", "21 8"),
+        ("N 0", "21 8"),
+        ("L 00 0 5 2 0 1 1 2", "21 8"),
+        ("L 0 0 05 2 0 1 1 2", "21 8"),
+        ("L 0 0 65536 2 0 1 1 2", "21 8"),
+        ("L 0 0 5 2 0 1 1 +2", "21 8"),
+        ("L 0 0 5 2 0 1 1 2 x", "21 8"),
+        ("L 0 1 1 1 1 x", "21 8"),
+        ("L 0  0 5 2 0 1 1 2", "21 8"),
+        ("L 65536 10 0 0", "21 8"),
+        ("L 65535 10 0 0", "0 7"),
+    ]:
+        log(text(lines + last), answer)
+    log(text(TWO)[:-1] + b"\t\n", "21 8")
+    log(text(TWO)[:-1] + b"\r\n", "21 8")
+    log(text(TWO) + b"\n", "21 9")
+    # R and N have one field more
+    for last, answer in [
+        ("R 0 0", "40 2 4"),
+        ("R 0 0 1 5 1 0 0", "40 2 4"),
+        ("R 0 0 0 65535 1 0 0", "40 2 5"),
+        ("R 0 0 0 5 0", "40 2 6"),
+        ("R 0 0 0 5 1 1 0", "40 2 7"),
+        ("R 0 0 0 5 1 0", "40 2 8"),
+        ("R 0 0 0 5 1 0 0 0", "40 2 9"),
+        ("R 0 1 0 5 1 1 0", "0 1"),
+        ("N 0 1 0 5 1 1 0", "40 2 4"),
+        ("N 0 1 12 0 0 0", "40 2 7"),
+        ("P 0 12 0 0", "0 1"),
+    ]:
+        log(text("T 3 1 1 5; " + last), answer)
+    # a line doubled, and two in the other order
+    log(text("T 3 1 1 5; R 0 0 0 5 1 0 0; R 0 0 0 5 1 0 0"), "40 3 4")
+    log(text("T 3 1 1 5; P 0 1 5 0; R 0 0 0 5 1 0 0"), "40 2 3")
+    # the end missing: fewer than 62 bytes, or 62 and more without a line end
+    head = text("T 1 1 0 0; P 0 12 0 0")
+    log(text(LOG)[:-1], "22 14")
+    log(head + b"P", "22 3")
+    log(head + b"P\t0\t12\t0\t0", "22 3")
+    log(head + b"?" * 61, "22 3")
+    log(head + b"?" * 62, "21 3")
+    log(head + b"?" * 61 + b"\n", "21 3")
+    log(head + b"?" * 62 + b"\n", "21 3")
+    # lines of 61, 62 and 63 bytes, all their fields numbers
+    log(head + b"P\t0\t12\t0\t0" + b"\t0" * 25 + b"\n", "40 3 6")
+    log(head + b"P\t0\t12\t0\t0" + b"\t0" * 24 + b"\t10" + b"\n", "40 3 6")
+    log(head + b"P\t0\t12\t0\t0" + b"\t0" * 26 + b"\n", "21 3")
+    log(head + b"P\t0\t12\t0\t0" + b"\t0" * 25, "22 3")
+    log(head + b"P\t0\t12\t0\t0" + b"\t0" * 26, "21 3")
+    log(head + b"N" + b"\t65535" * 10 + b"\n", "40 3 4")
+    log(head + b"N" + b"\t65535" * 10 + b"\t\n", "21 3")
 
 
 def register(ticket, valid, flag):
@@ -237,7 +352,8 @@ for room, place, numbers, answer in [
 ]:
     line(b"E", room, place, numbers, answer)
 script(text(RUN), text(COLUMNS))
+logs()
 # the last case is cut off, which ends the program
 cases.append(b"W\0\0\1")
 
-sys.stdout.buffer.write(b"".join(cases if sys.argv[1:] == ["cases"] else answers))
+sys.stdout.buffer.write(b"".join(cases if sys.argv[1:2] == ["cases"] else answers))

@@ -4,6 +4,8 @@
 //! - `T`: u16 length, script. Answer: the translator's bytes, then a line `--`.
 //! - `B`: u16 bytes lent, u16 length, script. Answer: `B`, the number that stops one
 //!   call with that room (0 where the script is finished), and the bytes written.
+//! - `G`: u16 length, log. Answer: `G`, the number, and for 40 the line and the field,
+//!   for 20, 21, 22 and 24 the line, for 0 the number of steps that agree.
 //! - `S`: a table of 592 bytes (see `put_whole`). Answer: `S`, 1 if sound else 0.
 //! - `M`: a table as in `S`, u8 letter (0 R, 1 N, 2 P, 3 I, 4 C, from 5 on L), u16
 //!   core, u16 unit. Answer: `M`, answer, ticket, number of grants, unit and core
@@ -25,6 +27,7 @@
 
 use std::io::{self, BufReader, BufWriter, ErrorKind, Read, Write};
 
+use crate::log;
 use crate::script::put_field;
 use crate::table::{Core, Kind, Outcome, Register, State, Step, Table, Unit, MAX_CORES, MAX_UNITS};
 use crate::translate::translate;
@@ -59,25 +62,30 @@ fn put_register(case: &mut Vec<u8>, register: &Register) {
     case.push(register.flag as u8);
 }
 
-/// A script has at most 65,535 bytes here.
-pub fn put_script(case: &mut Vec<u8>, script: &[u8]) {
-    case.push(b'T');
+/// A script or a log, which have at most 65,535 bytes here, after its length.
+fn put_text(case: &mut Vec<u8>, text: &[u8]) {
     put_u16(
         case,
-        u16::try_from(script.len()).expect("script too long for a case"),
+        u16::try_from(text.len()).expect("text too long for a case"),
     );
-    case.extend_from_slice(script);
+    case.extend_from_slice(text);
+}
+
+pub fn put_script(case: &mut Vec<u8>, script: &[u8]) {
+    case.push(b'T');
+    put_text(case, script);
+}
+
+pub fn put_log(case: &mut Vec<u8>, log: &[u8]) {
+    case.push(b'G');
+    put_text(case, log);
 }
 
 /// One call with so many bytes lent.
 pub fn put_lent(case: &mut Vec<u8>, room: u16, script: &[u8]) {
     case.push(b'B');
     put_u16(case, room);
-    put_u16(
-        case,
-        u16::try_from(script.len()).expect("script too long for a case"),
-    );
-    case.extend_from_slice(script);
+    put_text(case, script);
 }
 
 /// The number that stops a call with so many bytes lent, and how many it writes:
@@ -341,6 +349,17 @@ fn answer<R: Read>(input: &mut R, payload: &mut Vec<u8>, out: &mut Vec<u8>) -> i
             put_answer(out, letter, number);
             put_field(out, wrote as u32);
         }
+        b'G' => {
+            read(payload, 2)?;
+            let length = Payload(payload).u16();
+            read(payload, length as usize)?;
+            let (number, line, field) = log::check(payload);
+            put_answer(out, letter, number);
+            put_field(out, line);
+            if number == 40 {
+                put_field(out, field);
+            }
+        }
         b'S' => {
             read(payload, TABLE)?;
             let sound = Payload(payload).table().sound();
@@ -544,6 +563,10 @@ mod tests {
         put_write_image(&mut cases, [2, 1, 1], 4, &table.unit);
         put_write_image(&mut cases, [2, 1, 1], 5, &table.unit);
         put_write_image(&mut cases, [2, 0, 1], 2, &table.unit);
+        put_log(&mut cases, b"T\t1\t1\t0\t7\nP\t0\t12\t0\t0\n");
+        put_log(&mut cases, b"T\t1\t1\t0\t7\nP\t0\t12\t1\t0\n");
+        put_log(&mut cases, b"T\t1\t1\t0\t7\nP\t0\t12\t0\t0\nP");
+        put_log(&mut cases, b"\n");
         cases.extend_from_slice(b"W\x01"); // cut off
         let mut out = Vec::new();
         answer_all(&cases[..], &mut out).unwrap();
@@ -551,7 +574,7 @@ mod tests {
             String::from_utf8(out).unwrap(),
             "E\t1\t1\t0\t7\n1\t0\t7\t1\t0\t0\nX\t22\n--\nX\t22\n--\nS\t1\nS\t0\n\
              W\t0\t65535\t1\t1\nW\t30\nP\t0\t65538\nP\t30\nI\t0\t1\t1\t0\t0\t0\t0\nI\t30\nI\t20\n\
-             O\t0\t0\t0\t0\t0\nO\t30\nO\t20\n"
+             O\t0\t0\t0\t0\t0\nO\t30\nO\t20\nG\t0\t1\nG\t40\t2\t4\nG\t22\t3\nG\t20\t1\n"
         );
         assert_eq!(TABLE, 592);
     }

@@ -11,6 +11,7 @@ use std::time::{Duration, Instant};
 
 use crate::cases;
 use crate::damage;
+use crate::logs;
 use crate::make::{edge_counter, Maker, Seen};
 use crate::program::{self, Ran};
 use crate::rng::Rng;
@@ -34,6 +35,8 @@ pub struct Options {
     pub methods: u64,
     /// Lines by the writers' functions.
     pub writers: u64,
+    /// Lines of logs.
+    pub logs: u64,
     pub jobs: usize,
     pub shrink_seconds: u64,
     /// Seconds a program may take for one batch.
@@ -49,6 +52,10 @@ const SINGLES_BATCH: u64 = 25;
 const OTHERS_BATCH: u64 = 5_000;
 const METHODS_BATCH: u64 = 5_000;
 const WRITERS_BATCH: u64 = 15_000;
+/// Lines of the logs in one batch, and how many small logs come to 100 lines; the
+/// other lines are in long ones.
+const LOGS_BATCH: u64 = 25_000;
+const LOGS_SMALL: u64 = 6;
 /// The answers a run of a million steps or more has to meet.
 const NUMBERS: [u32; 13] = [0, 1, 2, 10, 11, 12, 13, 14, 15, 20, 21, 22, 24];
 /// The answers so many steps by methods have to meet.
@@ -69,6 +76,11 @@ const WRITERS_ENOUGH: u64 = 3_000;
 /// many bytes.
 const LENT_NUMBERS: [u32; 5] = [0, 20, 21, 22, 23];
 const LENT_ENOUGH: u64 = 10_000;
+/// The stops that so many lines of logs have to meet, and the fields that are off.
+/// None past the tenth is the first: only steps of two fields give two grants.
+const LOG_NUMBERS: [u32; 5] = [0, 20, 21, 22, 40];
+const LOG_FIELDS: [u32; 8] = [3, 4, 5, 6, 7, 8, 9, 10];
+const LOGS_ENOUGH: u64 = 100_000;
 
 const LETTERS: &[u8; 6] = b"RNPICL";
 
@@ -107,6 +119,12 @@ enum Batch {
         stream: u64,
         first: u64,
         count: u64,
+    },
+    /// Logs of so many lines together, `first` lines being in the batches before.
+    Logs {
+        stream: u64,
+        first: u64,
+        lines: u64,
     },
 }
 
@@ -204,6 +222,13 @@ fn plan(options: &Options) -> Vec<Batch> {
             count,
         }
     });
+    pieces(options.logs, LOGS_BATCH, &|stream, first, lines| {
+        Batch::Logs {
+            stream,
+            first,
+            lines,
+        }
+    });
     plan
 }
 
@@ -228,6 +253,12 @@ struct Tally {
     writer_fits: u64,
     /// Calls with so many bytes lent, by the number that stopped them.
     lent: BTreeMap<u32, u64>,
+    /// Logs: their lines up to where each stops, by the number that stops them, for
+    /// 40 by the field, and by their damage.
+    log_lines: u64,
+    log_numbers: BTreeMap<u32, u64>,
+    log_fields: BTreeMap<u32, u64>,
+    log_kinds: BTreeMap<String, u64>,
     /// Counts in headers of scripts that were begun.
     headers: BTreeMap<Vec<u8>, u64>,
     kinds: BTreeMap<String, u64>,
@@ -249,6 +280,7 @@ impl Tally {
         self.sound += other.sound;
         self.method_two_grants += other.method_two_grants;
         self.writer_fits += other.writer_fits;
+        self.log_lines += other.log_lines;
         self.seen.add(&other.seen);
         add_all(&mut self.letters, other.letters);
         add_all(&mut self.numbers, other.numbers);
@@ -257,6 +289,9 @@ impl Tally {
         add_all(&mut self.method_numbers, other.method_numbers);
         add_all(&mut self.writers, other.writers);
         add_all(&mut self.lent, other.lent);
+        add_all(&mut self.log_numbers, other.log_numbers);
+        add_all(&mut self.log_fields, other.log_fields);
+        add_all(&mut self.log_kinds, other.log_kinds);
         add_all(&mut self.headers, other.headers);
         add_all(&mut self.kinds, other.kinds);
     }
@@ -320,6 +355,24 @@ impl Tally {
         let number = numbers_of(cases.close()).next().unwrap_or_default();
         *self.lent.entry(number).or_default() += 1;
     }
+
+    /// Puts a case of a log, counts it, and gives how many lines it has up to where
+    /// it stops.
+    fn close_log(&mut self, cases: &mut Cases, kind: logs::Kind, log: &[u8]) -> u64 {
+        cases::put_log(&mut cases.input, log);
+        let mut fields = numbers_of(cases.close());
+        let number = fields.next().unwrap_or_default();
+        *self.log_numbers.entry(number).or_default() += 1;
+        *self.log_kinds.entry(format!("{kind:?}")).or_default() += 1;
+        // The steps of an accepted log are answered, without its header.
+        let mut lines = fields.next().unwrap_or_default() as u64;
+        lines += (number == 0) as u64;
+        self.log_lines += lines;
+        if let Some(field) = fields.next() {
+            *self.log_fields.entry(field).or_default() += 1;
+        }
+        lines
+    }
 }
 
 /// The longest header and the longest line of a step, with their ends.
@@ -350,11 +403,12 @@ fn numbers_of(answer: &[u8]) -> impl Iterator<Item = u32> + '_ {
     fields.map(|field| field.iter().fold(0, |n, b| n * 10 + (b - b'0') as u32))
 }
 
-/// How a script reaches the first implementation.
+/// How a script reaches the first implementation, or a log, which goes by cases.
 #[derive(Clone, Copy, PartialEq, Debug)]
 enum Way {
     Translator { piece: usize },
     Cases,
+    Log,
 }
 
 /// The first case that the two answer differently.
@@ -390,6 +444,17 @@ fn second_answers(script: &[u8]) -> Vec<u8> {
     let mut answers = Vec::new();
     translate(script, &mut answers).expect("memory does not fail");
     answers
+}
+
+/// The answers to a script, or the one to a log.
+fn second_answers_by(script: &[u8], way: Way) -> Vec<u8> {
+    if way != Way::Log {
+        return second_answers(script);
+    }
+    let (mut case, mut answer) = (Vec::new(), Vec::new());
+    cases::put_log(&mut case, script);
+    cases::answer_to(&case, &mut answer);
+    answer
 }
 
 /// Cases one after the other, with the end of each and of its answer.
@@ -587,6 +652,29 @@ impl Comparison<'_> {
                 }
                 self.many(batch, cases)
             }
+            Batch::Logs {
+                stream,
+                first,
+                lines,
+            } => {
+                let mut rng = Rng::new(seed, stream);
+                let mut cases = Cases::default();
+                let mut left = lines;
+                let small = |lines: u64| lines * LOGS_SMALL / 100;
+                for number in small(first)..small(first + lines) {
+                    // Every third is the next of the list, as long as that goes.
+                    let next = (number % 3 == 0).then_some(number as usize / 3);
+                    let (kind, log) = next
+                        .and_then(logs::listed)
+                        .unwrap_or_else(|| logs::small(&mut rng));
+                    left = left.saturating_sub(tally.close_log(&mut cases, kind, &log));
+                }
+                while left > 0 {
+                    let (kind, log) = logs::long(&mut rng, left);
+                    left = left.saturating_sub(tally.close_log(&mut cases, kind, &log));
+                }
+                self.many(batch, cases)
+            }
         }
     }
 
@@ -627,10 +715,14 @@ impl Comparison<'_> {
         let ended = bad_end(&ran);
         let (start, answer) = if at == 0 { (0, 0) } else { cases.ends[at - 1] };
         let case = cases.input[start..cases.ends[at].0].to_vec();
-        let what = if case[0] == b'T' {
+        let what = if matches!(case[0], b'T' | b'G') {
+            let way = match case[0] {
+                b'T' => Way::Cases,
+                _ => Way::Log,
+            };
             Case::Script {
                 script: case[3..].to_vec(),
-                way: Way::Cases,
+                way,
             }
         } else {
             let rest = &ran.output[answer.min(ran.output.len())..];
@@ -703,10 +795,13 @@ impl Comparison<'_> {
                 let ran = self.ours("translator", script, piece, second.len());
                 ran.output != second || bad_end(&ran).is_some()
             }),
-            Way::Cases => {
+            Way::Cases | Way::Log => {
                 let mut cases = Cases::default();
                 for script in scripts {
-                    cases::put_script(&mut cases.input, script);
+                    match way {
+                        Way::Log => cases::put_log(&mut cases.input, script),
+                        _ => cases::put_script(&mut cases.input, script),
+                    }
                     cases.close();
                 }
                 let ran = self.ours("cases", &cases.input, 1 << 16, cases.answers.len());
@@ -741,8 +836,12 @@ impl Comparison<'_> {
         }
     }
 
-    /// Drops the lines after the one that is answered differently.
+    /// Drops the lines after the one that is answered differently. A log has one
+    /// answer, which does not show that line.
     fn drop_tail(&self, script: &mut Vec<u8>, way: Way) {
+        if way == Way::Log {
+            return;
+        }
         let second = second_answers(script);
         let ran = self.answers(script, way, second.len());
         let same = ran
@@ -775,6 +874,11 @@ impl Comparison<'_> {
                 }
                 ran
             }
+            Way::Log => {
+                let mut case = Vec::new();
+                cases::put_log(&mut case, script);
+                self.ours("cases", &case, 1 << 16, expected)
+            }
         }
     }
 
@@ -792,7 +896,8 @@ impl Comparison<'_> {
         while candidates.peek().is_some() && Instant::now() < until {
             let mut group = Vec::new();
             let mut size = 0;
-            let most = if way == Way::Cases { 1 << 20 } else { 0 };
+            let one = matches!(way, Way::Translator { .. });
+            let most = if one { 0 } else { 1 << 20 };
             for candidate in candidates.by_ref() {
                 size += candidate.len() + 64;
                 group.push(candidate);
@@ -874,6 +979,7 @@ impl Comparison<'_> {
             Case::Script { script, way } => {
                 let from = (lines_of(script).len(), script.len());
                 let (script, way) = (script.clone(), *way);
+                let text = if way == Way::Log { "log" } else { "script" };
                 let differs = |script: &Vec<u8>| {
                     self.first_differing(std::slice::from_ref(script), way)
                         .is_some()
@@ -882,13 +988,13 @@ impl Comparison<'_> {
                     self.shrink(script, way)
                 } else {
                     println!(
-                        "alone, this script makes no difference: it lies with what came before"
+                        "alone, this {text} makes no difference: it lies with what came before"
                     );
                     save("input of the process", &difference.input);
                     (script, way, false)
                 };
                 println!(
-                    "script of {} lines, {} bytes (shrunk from {} lines, {} bytes{}), by {way:?}:",
+                    "{text} of {} lines, {} bytes (shrunk from {} lines, {} bytes{}), by {way:?}:",
                     lines_of(&script).len(),
                     script.len(),
                     from.0,
@@ -896,7 +1002,7 @@ impl Comparison<'_> {
                     if whole { "" } else { ", not to the end" },
                 );
                 show_lines(&script);
-                let second = second_answers(&script);
+                let second = second_answers_by(&script, way);
                 println!("second answers:");
                 show_lines(&second);
                 println!("ours answers:");
@@ -906,7 +1012,7 @@ impl Comparison<'_> {
                     println!("{ended}");
                 }
                 if lines_of(&script).len() > SHOWN {
-                    save("script", &script);
+                    save(text, &script);
                 }
             }
         }
@@ -1064,6 +1170,12 @@ pub fn compare(options: &Options) -> i32 {
         "calls with so many bytes lent: {}",
         listed(&tally.lent, |number| format!("{number}:"))
     );
+    println!(
+        "logs by number: {}; 40 by field: {}; damage: {}",
+        listed(&tally.log_numbers, |number| format!("{number}:")),
+        listed(&tally.log_fields, |field| format!("{field}:")),
+        listed(&tally.log_kinds, |kind| kind.clone())
+    );
     let missing: Vec<String> = NUMBERS
         .iter()
         .filter(|number| !tally.numbers.contains_key(number))
@@ -1094,9 +1206,20 @@ pub fn compare(options: &Options) -> i32 {
         println!("so many calls have to meet every stop");
         return 1;
     }
+    let numbers = LOG_NUMBERS
+        .iter()
+        .any(|n| !tally.log_numbers.contains_key(n));
+    let fields = LOG_FIELDS
+        .iter()
+        .any(|field| !tally.log_fields.contains_key(field));
+    if options.logs >= LOGS_ENOUGH && (numbers || fields) {
+        println!("so many lines of logs have to meet every stop, and every field that can be off");
+        return 1;
+    }
     println!(
         "no difference: {} scripts, {} steps, {} damaged scripts ({} with a process of their own), \
-         {} table, word and image cases, {} steps by methods, {} lines by the writers, {} calls with so many bytes lent, seed {}, {:.1} seconds",
+         {} table, word and image cases, {} steps by methods, {} lines by the writers, {} calls with so many bytes lent, \
+         {} logs, {} log lines, seed {}, {:.1} seconds",
         tally.scripts,
         tally.steps,
         tally.damaged,
@@ -1105,6 +1228,8 @@ pub fn compare(options: &Options) -> i32 {
         tally.methods.values().sum::<u64>(),
         tally.writers.values().sum::<u64>(),
         tally.lent.values().sum::<u64>(),
+        tally.log_numbers.values().sum::<u64>(),
+        tally.log_lines,
         options.seed,
         began.elapsed().as_secs_f64(),
     );

@@ -68,15 +68,20 @@ pub const KINDS: [Kind; 21] = {
 const SAMPLE: &[u8] =
     b"T\t8\t3\t4\t65535\nR\t0\t0\nP\t0\nN\t0\t5\nR\t65535\t65535\nI\t10\nC\t1\nL\t0\n";
 
-/// The script of this number in the list of single damages to the sample: each
-/// place cut, deleted, replaced and preceded by every byte. None past the list.
+/// The script of this number in the list of single damages to the sample.
 pub fn listed(number: usize) -> Option<(Kind, Vec<u8>)> {
+    listed_of(SAMPLE, number)
+}
+
+/// Single damages to this sample: each place cut, deleted, replaced and preceded
+/// by every byte. None past the list.
+pub fn listed_of(sample: &[u8], number: usize) -> Option<(Kind, Vec<u8>)> {
     let each = 2 + 2 * BYTES.len();
     let (at, how) = (number / each, number % each);
-    if at >= SAMPLE.len() {
+    if at >= sample.len() {
         return None;
     }
-    let mut script = SAMPLE.to_vec();
+    let mut script = sample.to_vec();
     let kind = match how {
         0 => {
             script.truncate(at);
@@ -156,12 +161,12 @@ fn any_header(rng: &mut Rng) -> Vec<u8> {
 }
 
 /// Puts `bytes` in the place of the script's bytes from `from` to `to`.
-fn put(script: &mut Vec<u8>, from: usize, to: usize, bytes: &[u8]) {
+pub fn put(script: &mut Vec<u8>, from: usize, to: usize, bytes: &[u8]) {
     script.splice(from..to, bytes.iter().copied());
 }
 
 /// Does nothing where the script has no place for this kind of damage.
-fn damage(rng: &mut Rng, kind: Kind, script: &mut Vec<u8>) {
+pub fn damage(rng: &mut Rng, kind: Kind, script: &mut Vec<u8>) {
     // Often near the end, where a script may also just stop.
     let near = |rng: &mut Rng, length: usize| {
         if rng.chance(25) {

@@ -4,6 +4,8 @@
 pub mod cases;
 pub mod compare;
 pub mod damage;
+pub mod log;
+pub mod logs;
 pub mod make;
 pub mod program;
 pub mod rng;

@@ -195,7 +195,8 @@ impl Maker {
         self.usual_step()
     }
 
-    fn make(&mut self, step: Step) {
+    /// Makes this step on the maker's table.
+    pub fn make(&mut self, step: Step) {
         let c = step.core as usize;
         let before = self.table.core.get(c).copied().unwrap_or_default();
         let flagged =

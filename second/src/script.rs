@@ -17,7 +17,7 @@ pub enum Fault {
 
 /// A tab at `at` and a number after it; gives the number and the place after it.
 #[inline]
-fn field(bytes: &[u8], at: usize) -> Option<(u16, usize)> {
+pub fn field(bytes: &[u8], at: usize) -> Option<(u16, usize)> {
     if bytes.get(at) != Some(&b'\t') {
         return None;
     }
@@ -48,8 +48,10 @@ fn line_end(bytes: &[u8], at: usize) -> Option<usize> {
     (bytes.get(at) == Some(&b'\n')).then_some(at + 1)
 }
 
+/// A step's letter and its numbers at the start of `bytes`; gives the place after
+/// the last of them.
 #[inline]
-fn step_line(bytes: &[u8]) -> Option<(Step, usize)> {
+pub fn step_part(bytes: &[u8]) -> Option<(Step, usize)> {
     let (kind, two) = match bytes.first()? {
         b'R' => (Kind::Request, true),
         b'N' => (Kind::Nest, true),
@@ -61,7 +63,13 @@ fn step_line(bytes: &[u8]) -> Option<(Step, usize)> {
     };
     let (core, at) = field(bytes, 1)?;
     let (unit, at) = if two { field(bytes, at)? } else { (0, at) };
-    Some((Step { kind, core, unit }, line_end(bytes, at)?))
+    Some((Step { kind, core, unit }, at))
+}
+
+#[inline]
+fn step_line(bytes: &[u8]) -> Option<(Step, usize)> {
+    let (step, at) = step_part(bytes)?;
+    Some((step, line_end(bytes, at)?))
 }
 
 fn header_line(bytes: &[u8]) -> Option<(Table, usize)> {

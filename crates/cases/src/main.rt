@@ -8,6 +8,8 @@
 //   that script, and a line `--`.
 // - B: u16 bytes lent, u16 length, and so many bytes of script: one call of the translation, from the
 //   beginning. `B`, the stop's number, and how many bytes are written.
+// - G: u16 length, and so many bytes of log: one call of the check, from the beginning. `G`, the stop's
+//   number; then for 40 the line and the field, for 0 the steps that agreed, for any other the line.
 // - S: a table. u16 cores, first-class units, second-class units and counter; 8 cores of u16 own,
 //   carried, first and second and u8 state (0 idle, 1 waiting, 2 holding, 3 waiting second, 4 holding
 //   both, from 5 on away); 16 units of 8 registers. `S`, and 1 if it is sound, else 0.
@@ -31,6 +33,7 @@
 // lent above 64 end the program.
 mod bytes;
 mod image;
+mod logged;
 mod methods;
 mod register;
 mod scripts;
@@ -183,6 +186,9 @@ fn size(s: &[u8]) -> usize {
     if letter == b'B' {
         return 5 + half(s, 3) as usize;
     }
+    if letter == b'G' {
+        return 3 + half(s, 1) as usize;
+    }
     if letter == b'S' {
         return 593;
     }
@@ -241,6 +247,9 @@ fn answer(s: &[u8], out: &mut [u8], wrote: usize) -> usize {
     }
     if letter == b'B' {
         return scripts::answer_lent(s, out, wrote);
+    }
+    if letter == b'G' {
+        return logged::answer(s, out, wrote);
     }
     if letter == b'S' {
         return table::answer(s, out, wrote);

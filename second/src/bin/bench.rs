@@ -1,8 +1,9 @@
 //! Measures programs that were compiled for x86-64, each started by the same
 //! starter, and prints one table. `bench/run` builds what this needs.
 //!
-//! Usage: bench STARTER OURS SECOND COPY FOLDER REPETITIONS
-//! FOLDER has the scripts 0, 100000 and 1000000, named by their steps.
+//! Usage: bench STARTER OURS CHECKER SECOND COPY FOLDER REPETITIONS
+//! FOLDER has the scripts 0, 100000 and 1000000, named by their steps, and the log
+//! of the last.
 
 use std::fs::{self, File};
 use std::io;
@@ -106,8 +107,8 @@ fn same(a: &Path, b: &Path) -> io::Result<bool> {
 }
 
 fn bench(words: &[String]) -> io::Result<i32> {
-    let [starter, ours, second, copy, folder, repetitions] = words else {
-        eprintln!("usage: bench STARTER OURS SECOND COPY FOLDER REPETITIONS");
+    let [starter, ours, checker, second, copy, folder, repetitions] = words else {
+        eprintln!("usage: bench STARTER OURS CHECKER SECOND COPY FOLDER REPETITIONS");
         return Ok(2);
     };
     let repetitions: usize = repetitions.parse().unwrap_or(5).max(1);
@@ -143,6 +144,12 @@ fn bench(words: &[String]) -> io::Result<i32> {
         copy,
         "answers to 1000000 steps".to_string(),
         answers.clone(),
+    ));
+    jobs.push((
+        "checker",
+        checker,
+        "log of 1000000 steps".to_string(),
+        folder.join("log"),
     ));
     let mut runs: Vec<Vec<Measured>> = jobs.iter().map(|_| Vec::new()).collect();
     for _ in 0..repetitions {
@@ -200,6 +207,11 @@ fn bench(words: &[String]) -> io::Result<i32> {
         ratio(&rows[2], floor.0, floor.1)
     );
     println!("second to the copy: {}", ratio(&rows[5], floor.0, floor.1));
+    println!(
+        "checker on the log to ours on its script: {}; less start-up {:.2} cpu",
+        ratio(&rows[10], rows[2].wall, rows[2].cpu),
+        (rows[10].cpu - rows[0].cpu) / (rows[2].cpu - rows[0].cpu).max(1e-9)
+    );
     println!(
         "peak memory of ours at 1000000 steps to 100000: {:.2} times; less that of the copy: {:.1} MiB",
         rows[2].peak / rows[1].peak,

@@ -10,6 +10,7 @@ const USAGE: &str = "usage: compare [STEPS [SEED]] [OPTION NUMBER]...
   --others N        soundness, word and image cases (60000)
   --methods N       steps by the table's methods (40000)
   --writers N       lines by the writers' functions (60000)
+  --logs N          lines of logs, 6 small logs to 100 lines (1000000)
   --jobs N          processes at a time (the machine's, at most 4)
   --shrink-seconds N  time for shrinking a script that shows a difference (120)
   --limit N         seconds one process may take (600)
@@ -31,6 +32,7 @@ fn main() {
         others: 60_000,
         methods: 40_000,
         writers: 60_000,
+        logs: 1_000_000,
         jobs: cores.min(4),
         shrink_seconds: 120,
         limit: 600,
@@ -54,6 +56,7 @@ fn main() {
             "--others" => options.others = value(),
             "--methods" => options.methods = value(),
             "--writers" => options.writers = value(),
+            "--logs" => options.logs = value(),
             "--jobs" => options.jobs = value().clamp(1, 64) as usize,
             "--shrink-seconds" => options.shrink_seconds = value(),
             "--limit" => options.limit = value(),

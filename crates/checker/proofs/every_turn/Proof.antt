@@ -1,0 +1,59 @@
+-- `checker::every_turn` ends: the turns that are left fall by one each time.
+use mathlib.Core.Path.{_≡_}
+use lib.ListN.{length}
+use borrow.Author.Needs.{needs}
+use Rattle.checker.proofs.every_turn.Statement.{statement}
+use Rattle.checker.proofs.every_turn.Tie as tie
+
+abbrev Inv-loop : tie.InvT-loop
+Inv-loop input₀ now₀ turns₀ input now turns = length input ≡ length input₀
+
+abbrev μ-loop : tie.MeasureT-loop
+μ-loop input₀ now₀ turns₀ input now turns = turns
+
+begun-requires : tie.Need-begun-requires Inv-loop μ-loop
+begun-requires c κs = search needs
+
+loop-holds : tie.Need-loop-holds Inv-loop μ-loop
+loop-holds c = search needs
+
+turn-requires : tie.Need-turn-requires Inv-loop μ-loop
+turn-requires c κs = search needs
+
+same-length : tie.Need-same-length Inv-loop μ-loop
+same-length c = search needs
+
+returns : tie.Need-returns Inv-loop μ-loop
+returns c = search needs
+
+sub-turns : tie.Need-sub-turns Inv-loop μ-loop
+sub-turns c = search needs
+
+loop-less : tie.Need-loop-less Inv-loop μ-loop
+loop-less c = search needs
+
+loop-again : tie.Need-loop-again Inv-loop μ-loop
+loop-again c = search needs
+
+same-length-2 : tie.Need-same-length-2 Inv-loop μ-loop
+same-length-2 c = search needs
+
+returns-2 : tie.Need-returns-2 Inv-loop μ-loop
+returns-2 c = search needs
+
+pub every-turn-spec : {M : Type 1} → statement M
+every-turn-spec =
+    tie.close
+    (tie.spec
+    Inv-loop
+    μ-loop
+    begun-requires
+    loop-holds
+    turn-requires
+    same-length
+    returns
+    sub-turns
+    loop-less
+    loop-again
+    same-length-2
+    returns-2)
