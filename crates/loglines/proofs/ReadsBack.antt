@@ -67,7 +67,7 @@ parse-written (C k) (g ∷ gs) small = simp (numbers-read 67 (k .0) (g ∷ gs) s
 parse-written (L k) [] small = simp (numbers-read 76 (k .0) [] small)
 parse-written (L k) (g ∷ gs) small = simp (numbers-read 76 (k .0) (g ∷ gs) small)
 
-letter-plain : (x : Step) → letterOf x ≡ end → ⊥
+pub letter-plain : (x : Step) → letterOf x ≡ end → ⊥
 letter-plain (R k u) e = omega arith
 letter-plain (N k u) e = omega arith
 letter-plain (P k) e = omega arith
@@ -75,7 +75,7 @@ letter-plain (I k) e = omega arith
 letter-plain (C k) e = omega arith
 letter-plain (L k) e = omega arith
 
-tabs-plain : (ns : List ℕ) → Plain (tabs ns)
+pub tabs-plain : (ns : List ℕ) → Plain (tabs ns)
 tabs-plain [] = tt
 tabs-plain (n ∷ ns) = plain-append (tabbed n) (tabs ns) (plain-tabbed n) (tabs-plain ns)
 

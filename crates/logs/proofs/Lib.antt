@@ -3,5 +3,6 @@ pub mod Accepted
 pub mod Judging
 pub mod Turning
 pub mod Meeting
+pub mod Beside
 pub mod Going
 pub mod Determined

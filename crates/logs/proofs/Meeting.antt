@@ -77,7 +77,7 @@ grants-fields (Two g h) =
 pub shown-fields : (a : Answer) (n : Ticket) (g : Grants) → shownBytes a n g ≡ fields (givenBy a n g)
 shown-fields a n g = ap (λ (l : List ℕ). tabbed (numberOf a) ++ (tabbed (n .0) ++ l)) (grants-fields g)
 
-tabs-fields : (ns gs : List ℕ) → tabs ns ++ fields gs ≡ fields (ns ++ gs)
+pub tabs-fields : (ns gs : List ℕ) → tabs ns ++ fields gs ≡ fields (ns ++ gs)
 tabs-fields [] gs = refl
 tabs-fields (n ∷ ns) gs = append-assoc (tabbed n) (tabs ns) (fields gs) ∙ ap (λ (l : List ℕ). tabbed n ++ l) (tabs-fields ns gs)
 

@@ -1,8 +1,9 @@
 -- The log of a part that keeps the rules is accepted, whatever its steps are.
-use Prim.Native.Nat.{ℕ, _≤_}
-use mathlib.Core.Bool.{true}
+use Prim.Native.Nat.{ℕ, zero, suc, _≤_}
+use mathlib.Core.Bool.{true, cond}
 use mathlib.Core.List.{List, [], _∷_, _++_}
 use mathlib.Core.Path.{_≡_}
+use lib.Dec.{eqb}
 use lib.ListN.{length}
 use Rattle.ticket.specs.declared.kinds.Ticket.{Ticket}
 use Rattle.parts.specs.Range.{inRange}
@@ -13,6 +14,7 @@ use Rattle.block.specs.Steps.{step}
 use Rattle.block.specs.declared.stepped.Stepped.{Stepped}
 use Rattle.block.specs.declared.table.Table.{Table}
 use Rattle.building.specs.Build.{build}
+use Rattle.numbers.specs.Bytes.{tab, end}
 use Rattle.numbers.specs.Number.{numberMost}
 use Rattle.lines.specs.Bytes.{letterT, letterOf}
 use Rattle.writing.specs.Writing.{fields, numbersOf, headerBytes}
@@ -20,7 +22,8 @@ use Rattle.writing.specs.Claims.{Small}
 use Rattle.stops.specs.Run.{stepsMost, beginning}
 use Rattle.stops.specs.declared.run.Stop.the-variants.{Finished}
 use Rattle.walks.specs.Walk.{Steady, Ended}
-use Rattle.calls.specs.Call.{Known, working}
+use Rattle.walks.specs.Pieces.{written}
+use Rattle.calls.specs.Call.{Known, working, call}
 use Rattle.logs.specs.Checking.{given, checking, checkCall}
 use Rattle.logs.specs.declared.call.LogStop.{LogStop}
 use Rattle.logs.specs.declared.call.LogStop.the-variants.{Plain}
@@ -62,3 +65,35 @@ Accepted =
     AllSmall xs →
     length xs ≤ stepsMost →
     let log = logOf c n xs in Accepts log (tableAfter (build c n .table) xs) (length xs) (checkCall beginning log)
+
+-- Of the bytes of a script and of what was written for it
+
+-- the bytes up to the first b, and those past it
+unfoldable pub until : ℕ → List ℕ → List ℕ
+until b [] = []
+until b (x ∷ xs) = cond (eqb x b) [] (x ∷ until b xs)
+
+unfoldable pub past : ℕ → List ℕ → List ℕ
+past b [] = []
+past b (x ∷ xs) = cond (eqb x b) xs (past b xs)
+
+-- n step lines of a script, each with what its line of the output o has past the step's number
+unfoldable pub beside : ℕ → List ℕ → List ℕ → List ℕ
+beside zero s o = []
+beside (suc n) s o = until end s ++ (tab ∷ (until end (past tab o) ++ (end ∷ beside n (past end s) (past end o))))
+
+-- the log: the script's header, and n steps
+abbrev pub ownLog : ℕ → List ℕ → List ℕ → List ℕ
+ownLog n s o = until end s ++ (end ∷ beside n (past end s) (past end o))
+
+-- "a log made from our own output is always accepted": of all the steps that a call worked, whatever stopped it after the header
+abbrev pub OwnAccepted : Type 0
+OwnAccepted =
+    (s out : List ℕ) →
+    let d = call beginning s out .desk in
+    let log = ownLog (d .state .steps) s (written (d .first)) in
+    d .state .headed ≡ true → Accepts log (d .state .table) (d .state .steps) (checkCall beginning log)
+
+-- which a call that is finished has read
+abbrev pub FinishedHeaded : Type 0
+FinishedHeaded = (s out : List ℕ) → let e = call beginning s out in e .why ≡ Finished → e .desk .state .headed ≡ true
