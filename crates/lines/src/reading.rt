@@ -8,7 +8,7 @@ ghost use mathlib.Core.Path.{_≡_};
 ghost use Prim.Native.Nat.{_+_, _-_, _≤_, _<_};
 ghost use lib.ListN.{length, take, drop};
 ghost use Rattle.lines.specs.ShortLine.{digit, shortLine};
-ghost use Rattle.lines.specs.Reading.{lineEnd, oneNumber, twoNumbers, afterCore, afterLetter, parseStep, stepLine, readStep, stepLineNumber, stepNumber};
+ghost use Rattle.lines.specs.Reading.{ending, lineEnd, oneNumber, twoNumbers, afterCore, afterLetter, parseStep, stepLine, readStep, stepLineNumber, stepNumber};
 
 // The longest script line, with its end.
 pub const LINE_MOST: usize = 14;
@@ -35,12 +35,12 @@ pub enum StepLine {
     Unfinished,
 }
 
-// The end of the line that starts at a place.
-pub fn line_end(s: &[u8], at: usize) -> Ending
-    ensures { λ r. ⌜ r ≡ lineEnd (now (s .entry)) at ⌝ }
+// Where the line that starts at a place ends, if one of the next so many bytes is a line end.
+pub fn end_within(s: &[u8], at: usize, most: usize) -> Ending
+    ensures { λ r. ⌜ r ≡ ending most at (drop at (now (s .entry))) ⌝ }
 {
     let mut i = at;
-    let mut left = LINE_MOST;
+    let mut left = most;
     while 0 < left {
         if s.len() <= i {
             return Ending::Short;
@@ -52,6 +52,13 @@ pub fn line_end(s: &[u8], at: usize) -> Ending
         left -= 1;
     }
     Ending::Long
+}
+
+// The end of the line that starts at a place.
+pub fn line_end(s: &[u8], at: usize) -> Ending
+    ensures { λ r. ⌜ r ≡ lineEnd (now (s .entry)) at ⌝ }
+{
+    end_within(s, at, LINE_MOST)
 }
 
 // A letter with one number.

@@ -6,6 +6,7 @@ use crate::seen::given_at;
 use crate::seen::is_missing;
 use crate::seen::same;
 use lines::Ending;
+use lines::end_within;
 use numbers::Field;
 use numbers::read_field;
 use parts::Step;
@@ -26,19 +27,7 @@ pub const LOG_MOST: usize = 62;
 pub fn log_end(s: &[u8], at: usize) -> Ending
     ensures { λ r. ⌜ r ≡ ending logMost at (drop at (now (s .entry))) ⌝ }
 {
-    let mut i = at;
-    let mut left = LOG_MOST;
-    while 0 < left {
-        if s.len() <= i {
-            return Ending::Short;
-        }
-        if s[i] == 10 {
-            return Ending::At(i);
-        }
-        i += 1;
-        left -= 1;
-    }
-    Ending::Long
+    end_within(s, at, LOG_MOST)
 }
 
 // The step part of a line without its end: the step, how many numbers it has, and the place of the field behind it,

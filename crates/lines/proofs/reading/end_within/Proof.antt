@@ -1,18 +1,17 @@
--- `loglines::line::log_end` meets its contract: what is still to be answered, after the bytes before i, is the answer.
+-- `lines::reading::end_within` meets its contract: what is still to be answered, after the bytes before i, is the answer.
 use mathlib.Core.Path.{_≡_}
 use lib.ListN.{drop}
 use borrow.Author.Needs.{needs}
 use Rattle.lines.specs.Reading.{ending}
 use Rattle.lines.proofs.Turns.{at-none, at-end, at-more, at-long}
-use Rattle.loglines.specs.Log.{logMost}
-use Rattle.loglines.proofs.line.log_end.Statement.{statement}
-use Rattle.loglines.proofs.line.log_end.Tie as tie
+use Rattle.lines.proofs.reading.end_within.Statement.{statement}
+use Rattle.lines.proofs.reading.end_within.Tie as tie
 
 abbrev Inv-loop : tie.InvT-loop
-Inv-loop s at i₀ left₀ i left = ending logMost at (drop at s) ≡ ending left i (drop i s)
+Inv-loop s at most i₀ left₀ i left = ending most at (drop at s) ≡ ending left i (drop i s)
 
 abbrev μ-loop : tie.MeasureT-loop
-μ-loop s at i₀ left₀ i left = left
+μ-loop s at most i₀ left₀ i left = left
 
 loop-holds : tie.Need-loop-holds Inv-loop μ-loop
 loop-holds c = search needs
@@ -41,8 +40,8 @@ loop-again c = search (at-more, needs)
 returns-3 : tie.Need-returns-3 Inv-loop μ-loop
 returns-3 c = search (at-long, needs)
 
-pub log-end-spec : {M : Type 1} → statement M
-log-end-spec =
+pub end-within-spec : {M : Type 1} → statement M
+end-within-spec =
     tie.close
     (tie.spec
     Inv-loop
