@@ -1,10 +1,12 @@
 -- "The steps": the effect of each when it is allowed. m is the counter and c the core that the step names; for P also whether the flag
 -- that it waits for is set, and who is next in line at its first unit.
-use mathlib.Core.Bool.{Bool, cond}
+use mathlib.Core.Bool.{Bool, true, false, cond}
 use Rattle.ticket.specs.Kinds.{ticket}
-use Rattle.ticket.specs.Order.{older, after}
+use Rattle.ticket.specs.Order.{compare, after}
 use Rattle.ticket.specs.declared.kinds.Ticket.{Ticket}
 use Rattle.ticket.specs.declared.kinds.UnitNo.{UnitNo}
+use Rattle.ticket.specs.declared.order.Comparison.{Comparison}
+use Rattle.ticket.specs.declared.order.Comparison.the-variants.{Older, Younger, Same, Opposite}
 use Rattle.parts.specs.State.{twoStage}
 use Rattle.parts.specs.Parts.{unitNo, idle, core}
 use Rattle.parts.specs.declared.kinds.Core.{Core}
@@ -54,8 +56,12 @@ hold m c = makes (core (c .own) (c .carried) (c .first) (c .second) (served (c .
 
 -- "Inheriting: take the oldest ticket among valid registers with flag clear at the first unit. If it is older than the carried
 -- ticket, it becomes the carried ticket and goes into the second unit's register. Otherwise nothing changes."
+-- Whether a ticket that compares so with the carried one is inherited: Same was inherited before, Opposite is not met in a sound table.
+abbrev pub heritable : Comparison → Bool
+heritable x = elim x [ Older ↦ true | Younger ↦ false | Same ↦ false | Opposite ↦ true ]
+
 abbrev pub heir : Ticket → Best → Ticket
-heir n best = elim best [ Nobody ↦ n | Won j t ↦ cond (older (t .0) (n .0)) t n ]
+heir n best = elim best [ Nobody ↦ n | Won j t ↦ cond (heritable (compare (t .0) (n .0))) t n ]
 
 abbrev pub inherit : Ticket → Core → Ticket → Effect
 inherit m c n = makes (core (c .own) n (c .first) (c .second) (c .state)) (Carry n) NotYet n m

@@ -11,16 +11,17 @@ use parts::idle;
 use parts::two_stage;
 use settling::Best;
 use settling::next_of;
+use ticket::Comparison;
 use ticket::CoreNo;
 use ticket::Ticket;
 use ticket::UnitNo;
-use ticket::older;
+use ticket::compare;
 use ticket::take;
 ghost use mathlib.Core.Path.{_≡_};
 ghost use Prim.Native.Nat.{_≤_, _<_};
 ghost use Rattle.parts.specs.Parts.{cores, registerIn};
 ghost use Rattle.settling.specs.Line.{nextOf};
-ghost use Rattle.effects.specs.Effect.{request, nest, interrupt, comeBack, release, served, heir, hold, inherit, wait, poll, stepEffect};
+ghost use Rattle.effects.specs.Effect.{request, nest, interrupt, comeBack, release, served, heritable, heir, hold, inherit, wait, poll, stepEffect};
 
 // R: takes the counter as ticket, enters the unit, waits.
 fn request(u: UnitNo, counter: Ticket) -> Effect
@@ -112,13 +113,35 @@ fn served(s: State) -> State
     }
 }
 
+// Whether a ticket that compares so with the carried one is inherited.
+fn heritable(x: Comparison) -> bool
+    ensures { λ r. ⌜ r ≡ heritable x ⌝ }
+{
+    match x {
+        // It is older than the carried one, and takes its place.
+        Comparison::Older => true,
+        // The carried ticket is the older one, and stays.
+        Comparison::Younger => false,
+        // It was inherited already, and its owner still waits: nothing changes.
+        Comparison::Same => false,
+        // Not met in a sound table, whose live tickets lie in one half of the circle: it would be inherited.
+        Comparison::Opposite => true,
+    }
+}
+
 // The older of a carried ticket and the one next in line.
 fn heir(carried: Ticket, best: Best) -> Ticket
     ensures { λ r. ⌜ r ≡ heir carried best ⌝ }
 {
     match best {
         Best::Nobody => carried,
-        Best::Won(_, m) => { if older(m, carried) { m } else { carried } }
+        Best::Won(_, m) => {
+            if heritable(compare(m, carried)) {
+                m
+            } else {
+                carried
+            }
+        }
     }
 }
 

@@ -11,11 +11,12 @@ use lib.Dec.{eqb, ltb}
 use lib.ListN.{List·getD-eq-default}
 use borrow.Author.Tests.{eqb-true, eq-eqb, ne-eqb, ltb-true, ltb-false}
 use Rattle.ticket.specs.Issue.{nth}
-use Rattle.ticket.specs.Order.{circle, half, behind, older, after}
+use Rattle.ticket.specs.Order.{circle, half, behind, compare, after}
+use Rattle.ticket.specs.declared.order.Comparison.the-variants.{Older, Younger, Same as Equal}
 use Rattle.ticket.specs.declared.kinds.CoreNo.{CoreNo}
 use Rattle.ticket.specs.declared.kinds.Ticket.{Ticket}
 use Rattle.ticket.specs.declared.kinds.UnitNo.{UnitNo}
-use Rattle.ticket.proofs.Laws.{nth-after, apart, earlier-older, later-not-older, same}
+use Rattle.ticket.proofs.Laws.{nth-after, apart, earlier-older, later-younger, same}
 use Rattle.parts.specs.Fold.{one}
 use Rattle.parts.specs.Answer.{whose}
 use Rattle.parts.specs.State.{isIdle}
@@ -39,6 +40,7 @@ use Rattle.laws.proofs.Keeping.{Good, steps-keep, core-fresh, fresh-shaped, fre
 use Rattle.laws.proofs.Kept.{live-close}
 use Rattle.laws.proofs.Oldest.{Fitting}
 use Rattle.fairness.specs.Run.{Place, Reached, done, requests, onward, start, afterAll}
+use Rattle.fairness.specs.Claims.{byNumber}
 use Rattle.fairness.proofs.Effects.{Accepted, Refusal, Keeps, Same, judged, on-good, answers-done, stepped-core, stepped-counter, keeps, poll-same}
 
 -- core j has a ticket
@@ -244,8 +246,8 @@ module _ (c : ℕ) (p : Place) (n : Numbered c p) where
 
   -- the comparison of live tickets
   pub order :
-      (j k : ℕ) → Live t j → Live t k → older (coreOf t j .own .0) (coreOf t k .own .0) ≡ ltb (p .issue j) (p .issue k)
-  order j k l m = ap₂ older (n .own j l) (n .own k m) ∙ go (ltb i h) refl (ltb h i) refl
+      (j k : ℕ) → Live t j → Live t k → compare (coreOf t j .own .0) (coreOf t k .own .0) ≡ byNumber (p .issue j) (p .issue k)
+  order j k l m = ap₂ compare (n .own j l) (n .own k m) ∙ go (ltb i h) refl (ltb h i) refl
     where
       i : ℕ
       i = p .issue j
@@ -253,18 +255,18 @@ module _ (c : ℕ) (p : Place) (n : Numbered c p) where
       h : ℕ
       h = p .issue k
 
-      go : (b : Bool) → ltb i h ≡ b → (d : Bool) → ltb h i ≡ d → older (nth c i) (nth c h) ≡ b
+      go : (b : Bool) → ltb i h ≡ b → (d : Bool) → ltb h i ≡ d → compare (nth c i) (nth c h) ≡ cond b Older (cond d Younger Equal)
       go true x d y =
           let a = ltb-true i h x in
           earlier-older c i h a (omega (arith, n .high j l, n .low k m))
       go false x true y =
           let a = ltb-true h i y in
-          later-not-older c h i a (omega (arith, n .high k m, n .low j l))
+          later-younger c h i a (omega (arith, n .high k m, n .low j l))
       go false x false y =
           let a = ltb-false i h x in
           let b = ltb-false h i y in
           let e : i ≡ h = omega arith in
-          ap (λ (w : ℕ). older (nth c w) (nth c h)) e ∙ same (nth c h)
+          ap (λ (w : ℕ). compare (nth c w) (nth c h)) e ∙ same (nth c h)
 
   -- own tickets fit sixteen bits
   pub fitting : Fitting t

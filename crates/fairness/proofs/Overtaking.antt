@@ -1,19 +1,22 @@
 -- No overtaking. At a grant of the unit in the stretch the core's register is in line too, so the winner's is older. First-class units
 -- show own tickets, and their comparison is the order of issue.
 use Prim.Native.Nat.{ℕ, _<_}
-use mathlib.Core.Bool.{true, false, not}
+use mathlib.Core.Bool.{Bool, true, false, cond, not}
 use mathlib.Core.List.{List·Memᴰ, List·Memᴰ·not-nil}
 use mathlib.Core.Logic.{⊎-elim, _≢_}
-use mathlib.Core.Path.{_≡_, sym, _∙_, ap, ap₂}
+use mathlib.Core.Path.{_≡_, refl, sym, _∙_, ap, ap₂}
 use native.Mathlib.Omega.{arith}
+use lib.Dec.{ltb}
 use borrow.Author.Tests.{eq-eqb, ltb-true}
 use Rattle.ticket.specs.Kinds.{grant}
-use Rattle.ticket.specs.Order.{older}
+use Rattle.ticket.specs.Order.{compare}
+use Rattle.ticket.specs.declared.order.Comparison.the-variants.{Older, Younger, Same}
 use Rattle.ticket.specs.declared.kinds.Ticket.{Ticket}
 use Rattle.parts.specs.State.{isIdle}
 use Rattle.parts.specs.Parts.{cores, coreNo, unitNo}
 use Rattle.block.specs.Table.{coreOf, unitOf, registerOf}
 use Rattle.settling.specs.Line.{inLine}
+use Rattle.soundness.specs.Sound.{readsOlder}
 use Rattle.block.specs.Sound as S
 use Rattle.block.specs.Steps.{moves}
 use Rattle.parts.specs.declared.kinds.Core.{Core}
@@ -31,10 +34,20 @@ use Rattle.laws.proofs.Oldest.{Fitting, oldest-won}
 use Rattle.fairness.specs.Run.{Place, onward, afterAll}
 use Rattle.fairness.specs.Stretch.{grants, gives, leaves}
 use Rattle.fairness.specs.Claims.{NoOvertaking}
+use Rattle.fairness.specs.Claims.{byNumber}
 use Rattle.fairness.proofs.Counting.{gives-at}
 use Rattle.fairness.proofs.Effects.{Accepted, Refusal, stepped-core, judged}
 use Rattle.fairness.proofs.Invariant.{Live, live-small, numbered, Numbered, numbered-onward, fitting, order}
 use Rattle.fairness.proofs.Standing.{Stands, stands-entry, stands-after, ungranted, place, issue-stays, unmoved}
+
+-- of numbers that compare so, the first is the earlier
+number-earlier : (i h : ℕ) → byNumber i h ≡ Older → i < h
+number-earlier i h = go (ltb i h) refl (ltb h i)
+  where
+    go : (b : Bool) → ltb i h ≡ b → (d : Bool) → cond b Older (cond d Younger Same) ≡ Older → i < h
+    go true x d e = ltb-true i h x
+    go false x true e = absurd (clash (ap readsOlder e) refl)
+    go false x false e = absurd (clash (ap readsOlder e) refl)
 
 module _ (e : Place) (c k u : ℕ) (p : Place) (w : Stands e c k u p) (z : Step) (on : leaves k u p z ≡ false) where
   abbrev t : Table
@@ -89,13 +102,13 @@ module _ (e : Place) (c k u : ℕ) (p : Place) (w : Stands e c k u p) (z : Step)
       let other : k ≢ j = λ same. clash given (ap (λ (i : ℕ). gives u i (grants p z)) (sym same) ∙ ungranted e c k u p w z on) in
       let x = lined a j (o .0) (o .1) in
       let y = lined a k small (in-line a) in
-      let won : older (coreOf m j .own .0) (coreOf m k .own .0) ≡ true =
-      ap₂ older (x .own ∙ ap (λ (i : Ticket). i .0) (o .2)) (y .own) ∙ o .3 k small other (in-line a) in
+      let won : compare (coreOf m j .own .0) (coreOf m k .own .0) ≡ Older =
+      ap₂ compare (x .own ∙ ap (λ (i : Ticket). i .0) (o .2)) (y .own) ∙ o .3 k small other (in-line a) in
       let at-j = stepped-core t z a j in
       let at-k = stepped-core t z a k in
       let said = order c q n j k (due-live a j d) (rw at-k (ap isIdle (y .state))) in
       let less =
-      ltb-true (q .issue j) (q .issue k) (sym said ∙ ap₂ (λ (v v' : Core). older (v .own .0) (v' .own .0)) at-j at-k ∙ won) in
+      number-earlier (q .issue j) (q .issue k) (sym said ∙ ap₂ (λ (v v' : Core). compare (v .own .0) (v' .own .0)) at-j at-k ∙ won) in
       let same = issue-stays e c k u p w z on in
       omega arith
 

@@ -1,11 +1,13 @@
 -- Demand 3, claim by claim. The step s, from the place p, enters core k at unit u; onward p s is the place after its entry.
 use Prim.Native.Nat.{ℕ, _+_, _≤_, _<_}
-use mathlib.Core.Bool.{true, false}
+use mathlib.Core.Bool.{true, false, cond}
 use mathlib.Core.List.{List}
 use mathlib.Core.Logic.{_⊎_}
 use mathlib.Core.Path.{_≡_}
 use lib.Dec.{ltb}
-use Rattle.ticket.specs.Order.{older}
+use Rattle.ticket.specs.Order.{compare}
+use Rattle.ticket.specs.declared.order.Comparison.{Comparison}
+use Rattle.ticket.specs.declared.order.Comparison.the-variants.{Older, Younger, Same}
 use Rattle.parts.specs.State.{stands, holds}
 use Rattle.parts.specs.Parts.{coreNo}
 use Rattle.block.specs.Table.{coreOf}
@@ -16,6 +18,10 @@ use Rattle.parts.specs.declared.answer.Step.the-variants.{P}
 use Rattle.fairness.specs.Run.{Place, Reached, onward, afterAll}
 use Rattle.fairness.specs.Stretch.{grants, gives, enters, leaves, stretch, live, earlier, passed, interruptions}
 
+-- how the tickets with the issue numbers i and h compare
+abbrev pub byNumber : ℕ → ℕ → Comparison
+byNumber i h = cond (ltb i h) Older (cond (ltb h i) Younger Same)
+
 -- "its `earlier` is the order of requests in the run, never the comparison": of live tickets the comparison says what that order says
 abbrev pub OrderIsIssueOrder : Type 0
 OrderIsIssueOrder =
@@ -23,7 +29,7 @@ OrderIsIssueOrder =
     Reached p →
     live p j ≡ true →
     live p k ≡ true →
-    older (coreOf (p .table) j .own .0) (coreOf (p .table) k .own .0) ≡ ltb (p .issue j) (p .issue k)
+    compare (coreOf (p .table) j .own .0) (coreOf (p .table) k .own .0) ≡ byNumber (p .issue j) (p .issue k)
 
 -- "that unit goes only to tickets issued earlier": z is any later step of the stretch, and j whom it grants the unit
 abbrev pub NoOvertaking : Type 0

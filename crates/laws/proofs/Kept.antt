@@ -6,11 +6,13 @@ use mathlib.Core.Logic.{_⊎_, inl, inr, ⊎-elim, _≢_}
 use mathlib.Core.Path.{_≡_, refl, sym, ap}
 use native.Mathlib.Omega.{arith}
 use lib.Dec.{eqb, ltb, leb}
-use borrow.Author.Tests.{eqb-true, eq-eqb, ne-eqb, ltb-true, lt-ltb, leb-true, leb-false, le-leb}
-use Rattle.ticket.specs.Order.{half, behind, topBit, older, after, Window}
+use borrow.Author.Tests.{eqb-true, eq-eqb, ne-eqb, ltb-true, lt-ltb, leb-true, le-leb}
+use Rattle.ticket.specs.Order.{half, behind, compare, after, Window}
 use Rattle.ticket.specs.declared.kinds.CoreNo.{CoreNo}
 use Rattle.ticket.specs.declared.kinds.Ticket.{Ticket}
 use Rattle.ticket.specs.declared.kinds.UnitNo.{UnitNo}
+use Rattle.ticket.specs.declared.order.Comparison.{Comparison}
+use Rattle.ticket.specs.declared.order.Comparison.the-variants.{Older, Younger, Same, Opposite}
 use Rattle.parts.specs.Answer.{whose}
 use Rattle.parts.specs.Fold.{some}
 use Rattle.parts.specs.State.{isIdle, stands, holdsFirst, twoStage, unserved}
@@ -24,9 +26,10 @@ use Rattle.parts.specs.declared.kinds.State.the-variants.{Idle, Waiting, Holdin
 use Rattle.settling.specs.Line.{inLine, next}
 use Rattle.settling.specs.declared.line.Best.{Best}
 use Rattle.settling.specs.declared.line.Best.the-variants.{Nobody, Won}
-use Rattle.refusals.specs.Judge.{old, stretched}
+use Rattle.refusals.specs.Judge.{far, old, stretched}
+use Rattle.soundness.specs.Sound.{halfBehind, readsOlder}
 use Rattle.refusals.specs.declared.verdict.Verdict.the-variants.{Allowed}
-use Rattle.effects.specs.Effect.{request, release, heir}
+use Rattle.effects.specs.Effect.{request, release, heritable, heir}
 use Rattle.effects.specs.declared.kinds.Move.the-variants.{Stay, Enter, Carry, GiveUp}
 use Rattle.effects.specs.declared.kinds.Effect.{Effect}
 use Rattle.block.specs.Table.{coreOf, unitOf, registerOf, unitCount, Shaped}
@@ -34,7 +37,7 @@ use Rattle.block.specs.Sound as S
 use Rattle.block.specs.Parts.{Sound}
 use Rattle.block.specs.Steps.{verdict, effectOn, affected, moves}
 use Rattle.block.specs.declared.table.Table.{Table}
-use Rattle.ticket.proofs.Laws.{transitive}
+use Rattle.ticket.proofs.Laws.{seen, transitive, never-opposite}
 use Rattle.ticket.proofs.Circle.{behind-leads, behind-only, behind-self}
 use Rattle.parts.proofs.Along.{same-or-not}
 use Rattle.parts.proofs.Bools.{and-left, and-right, and-both, or-left, or-right, or-cases, clash}
@@ -86,25 +89,49 @@ first-place t a k h live =
     let low = names-first t (coreOf t k) (twoStage (coreOf t k .state)) (simp live at (a .core k h .named)) in
     omega (arith, units-few (t .counts) (a .counts))
 
+-- "1 to 32,768 behind the counter", as the comparison tells it and as the window has it
+module _ (n x : ℕ) where
+  half-window : halfBehind (compare x n) ≡ true → Window n x
+  half-window = go (compare x n) refl
+    where
+      go : (y : Comparison) → compare x n ≡ y → halfBehind y ≡ true → Window n x
+      go Older e h = let d = seen n x Older e in record { least = d .0; most = omega (arith, d .1) }
+      go Younger e h = absurd (clash h refl)
+      go Same e h = absurd (clash h refl)
+      go Opposite e h = let d : behind n x ≡ half = seen n x Opposite e in record { least = omega arith; most = omega arith }
+
+  window-half : Window n x → halfBehind (compare x n) ≡ true
+  window-half w = go (compare x n) refl
+    where
+      go : (y : Comparison) → compare x n ≡ y → halfBehind y ≡ true
+      go Older e = refl
+      go Younger e = let d : half < behind n x = seen n x Younger e in absurd (omega (arith, w .most))
+      go Same e = let d : behind n x ≡ 0 = seen n x Same e in absurd (omega (arith, w .least))
+      go Opposite e = refl
+
+  -- and nearer than 32,768, where the ticket is not far
+  near : far (compare x n) ≡ false → behind n x < half
+  near = go (compare x n) refl
+    where
+      go : (y : Comparison) → compare x n ≡ y → far y ≡ false → behind n x < half
+      go Older e h = seen n x Older e .1
+      go Younger e h = absurd (clash refl h)
+      go Same e h = let d : behind n x ≡ 0 = seen n x Same e in omega arith
+      go Opposite e h = absurd (clash refl h)
+
 -- a live core's own ticket lies in the window behind the counter
 module _ (t : Table) (c : Core) where
   pub recent-window : isIdle (c .state) ≡ false → S.recent t c ≡ true → Window (t .counter .0) (c .own .0)
-  recent-window live h =
-      let d = behind (t .counter .0) (c .own .0) in
-      let e : (leb 1 d && leb d half) ≡ true = simp live at h in
-      record { least = leb-true 1 d (and-left (leb 1 d) _ e); most = leb-true d half (and-right (leb 1 d) _ e) }
+  recent-window live h = half-window (t .counter .0) (c .own .0) (simp live at h)
 
   window-recent : (isIdle (c .state) ≡ false → Window (t .counter .0) (c .own .0)) → S.recent t c ≡ true
   window-recent w = go (isIdle (c .state)) w
     where
-      go :
-          (b : Bool) →
-          (b ≡ false → Window (t .counter .0) (c .own .0)) →
-          (b || (leb 1 (behind (t .counter .0) (c .own .0)) && leb (behind (t .counter .0) (c .own .0)) half)) ≡ true
+      go : (b : Bool) → (b ≡ false → Window (t .counter .0) (c .own .0)) → (b || halfBehind (compare (c .own .0) (t .counter .0))) ≡ true
       go true w = refl
-      go false w = and-both (le-leb _ _ (w refl .least)) (le-leb _ _ (w refl .most))
+      go false w = window-half (t .counter .0) (c .own .0) (w refl)
 
-live-window :
+pub live-window :
     (t : Table) →
     Sound t →
     (j : ℕ) →
@@ -127,9 +154,8 @@ pub live-close :
     j < cores →
     isIdle (coreOf t j .state) ≡ false →
     behind (t .counter .0) (coreOf t j .own .0) < half
-unfolding topBit
 live-close t s close j h live =
-    leb-false half _ (simp live at (some-none (λ (i : ℕ). old (t .counter) (coreOf t i)) (t .counts .cores) close j (live-within t s j h live)))
+    near (t .counter .0) (coreOf t j .own .0) (simp live at (some-none (λ (i : ℕ). old (t .counter) (coreOf t i)) (t .counts .cores) close j (live-within t s j h live)))
 
 -- so the counter may move: the ticket lies one further behind it
 next-window : (n x : ℕ) → behind n x < half → Window (after n) x
@@ -223,6 +249,42 @@ unserved-live WaitingSecond e = refl
 unserved-live HoldingBoth e = refl
 unserved-live Away e = refl
 
+-- a carried ticket is the own ticket of a live core, and so lies in the window too
+pub carried-window :
+    (t : Table) →
+    Sound t →
+    (k : ℕ) →
+    k < cores →
+    isIdle (coreOf t k .state) ≡ false →
+    Window (t .counter .0) (coreOf t k .carried .0)
+carried-window t s k h live = go (twoStage (coreOf t k .state)) (s .core k h .carries)
+  where
+    c : Core
+    c = coreOf t k
+
+    own : eqb (c .carried .0) (c .own .0) ≡ true → Window (t .counter .0) (c .carried .0)
+    own q = rw (eqb-true (c .carried .0) (c .own .0) q) (live-window t s k h live)
+
+    lender : S.inherits t c ≡ true → Window (t .counter .0) (c .carried .0)
+    lender i =
+        let p : ℕ → Bool = λ (j : ℕ). S.lends c (coreOf t j) in
+        let j = some-at p cores (and-left (some p cores) _ i) in
+        let l = lent c (coreOf t (j .0)) (j .2) in
+        rw (l .own) at (live-window t s (j .0) (j .1) (unserved-live (coreOf t (j .0) .state) (l .unserved)))
+
+    go :
+        (two : Bool) →
+        cond two (eqb (c .carried .0) (c .own .0) || S.inherits t c) (eqb (c .carried .0) (c .own .0) && eqb (c .second .0) 0) ≡ true →
+        Window (t .counter .0) (c .carried .0)
+    go true e = ⊎-elim own lender (or-cases (eqb (c .carried .0) (c .own .0)) _ e)
+    go false e = own (and-left (eqb (c .carried .0) (c .own .0)) _ e)
+
+reads-older : (x : Comparison) → readsOlder x ≡ true → x ≡ Older
+reads-older Older e = refl
+reads-older Younger e = absurd (clash e refl)
+reads-older Same e = absurd (clash e refl)
+reads-older Opposite e = absurd (clash e refl)
+
 -- what the register in line shows may be inherited
 module _ (t : Table) (s : Sound t) (k : ℕ) (small : k < cores) (e : coreOf t k .state ≡ WaitingSecond) where
   second-two : Two t (coreOf t k)
@@ -235,26 +297,24 @@ module _ (t : Table) (s : Sound t) (k : ℕ) (small : k < cores) (e : coreOf t k
   own-window = live-window t s k small (ap isIdle e)
 
   -- older than the carried ticket is older than the own one
-  older-own : (m : ℕ) → Window (t .counter .0) m → older m (coreOf t k .carried .0) ≡ true → older m (coreOf t k .own .0) ≡ true
+  older-own : (m : ℕ) → Window (t .counter .0) m → compare m (coreOf t k .carried .0) ≡ Older → compare m (coreOf t k .own .0) ≡ Older
   older-own m w o = ⊎-elim own lender (or-cases (eqb (coreOf t k .carried .0) (coreOf t k .own .0)) _ kept-ticket)
     where
-      own : eqb (coreOf t k .carried .0) (coreOf t k .own .0) ≡ true → older m (coreOf t k .own .0) ≡ true
+      own : eqb (coreOf t k .carried .0) (coreOf t k .own .0) ≡ true → compare m (coreOf t k .own .0) ≡ Older
       own q = rw (eqb-true (coreOf t k .carried .0) (coreOf t k .own .0) q) at o
 
-      lender : S.inherits t (coreOf t k) ≡ true → older m (coreOf t k .own .0) ≡ true
+      lender : S.inherits t (coreOf t k) ≡ true → compare m (coreOf t k .own .0) ≡ Older
       lender h =
           let c = coreOf t k in
-          let p : ℕ → Bool = λ (j : ℕ). S.lends c (coreOf t j) in
-          let j = some-at p cores (and-left (some p cores) _ h) in
-          let l = lent c (coreOf t (j .0)) (j .2) in
-          let wc = rw (l .own) at (live-window t s (j .0) (j .1) (unserved-live (coreOf t (j .0) .state) (l .unserved))) in
-          transitive (t .counter .0) m (c .carried .0) (c .own .0) w wc own-window o (and-right (some p cores) _ h)
+          let wc = carried-window t s k small (ap isIdle e) in
+          transitive (t .counter .0) m (c .carried .0) (c .own .0) w wc own-window o
+          (reads-older (compare (c .carried .0) (c .own .0)) (and-right (some (λ (j : ℕ). S.lends c (coreOf t j)) cores) _ h))
 
   new-ticket :
       (j : ℕ) (m : Ticket) →
       j < cores →
       WaitsAt (coreOf t j) (coreOf t k .first .0) m →
-      older (m .0) (coreOf t k .carried .0) ≡ true →
+      compare (m .0) (coreOf t k .carried .0) ≡ Older →
       S.carries t (stays (coreOf t k) m (coreOf t k .second) WaitingSecond) ≡ true
   new-ticket j m h w o =
       let c' = stays (coreOf t k) m (coreOf t k .second) WaitingSecond in
@@ -263,19 +323,23 @@ module _ (t : Table) (s : Sound t) (k : ℕ) (small : k < cores) (e : coreOf t k
       (and-both
       (at-some (λ (i : ℕ). S.lends c' (coreOf t i)) cores j h
       (lending c' (coreOf t j) (record { unserved = ap unserved (w .state); first = w .first; own = w .own })))
-      (older-own (m .0) wm o))
+      (ap readsOlder (older-own (m .0) wm o)))
 
   inherited-ticket : S.carries t (stays (coreOf t k) (inherited t (coreOf t k)) (coreOf t k .second) WaitingSecond) ≡ true
   inherited-ticket = go (next (unitOf t (coreOf t k .first .0))) refl
     where
       pick :
-          (b : Bool) (j : ℕ) (m : Ticket) →
+          (x : Comparison) (j : ℕ) (m : Ticket) →
           j < cores →
           WaitsAt (coreOf t j) (coreOf t k .first .0) m →
-          older (m .0) (coreOf t k .carried .0) ≡ b →
-          S.carries t (stays (coreOf t k) (cond b m (coreOf t k .carried)) (coreOf t k .second) WaitingSecond) ≡ true
-      pick true j m h w o = new-ticket j m h w o
-      pick false j m h w o = kept-ticket
+          compare (m .0) (coreOf t k .carried .0) ≡ x →
+          S.carries t (stays (coreOf t k) (cond (heritable x) m (coreOf t k .carried)) (coreOf t k .second) WaitingSecond) ≡ true
+      pick Older j m h w o = new-ticket j m h w o
+      pick Younger j m h w o = kept-ticket
+      pick Same j m h w o = kept-ticket
+      pick Opposite j m h w o =
+          let wm = rw (w .own) at (live-window t s j h (ap isIdle (w .state))) in
+          absurd (never-opposite (t .counter .0) (m .0) (coreOf t k .carried .0) wm (carried-window t s k small (ap isIdle e)) o)
 
       go :
           (b : Best) →
@@ -292,7 +356,7 @@ module _ (t : Table) (s : Sound t) (k : ℕ) (small : k < cores) (e : coreOf t k
           (s .unit (c .first .0) place .agrees (j .0) (w .2))
           (w .0)
           in
-          pick (older (m .0) (c .carried .0)) (j .0) m (w .2) (rw (w .1) at line) refl
+          pick (compare (m .0) (c .carried .0)) (j .0) m (w .2) (rw (w .1) at line) refl
 
 -- Each step, before settling
 

@@ -5,6 +5,7 @@ pub mod Moving
 pub mod Columns
 pub mod Kept
 pub mod Oldest
+pub mod Opposite
 pub mod Keeping
 pub mod Granting
 pub mod Working

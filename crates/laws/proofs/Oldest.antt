@@ -8,9 +8,10 @@ use mathlib.Core.Path.{_≡_, refl, sym, _∙_}
 use native.Mathlib.Omega.{arith}
 use lib.Dec.{eqb}
 use borrow.Author.Tests.{eqb-true}
-use Rattle.ticket.specs.Order.{circle, older, Window}
+use Rattle.ticket.specs.Order.{circle, compare, Window}
 use Rattle.ticket.specs.declared.kinds.CoreNo.{CoreNo}
 use Rattle.ticket.specs.declared.kinds.Ticket.{Ticket}
+use Rattle.ticket.specs.declared.order.Comparison.the-variants.{Older}
 use Rattle.parts.specs.Fold.{some}
 use Rattle.parts.specs.State.{isIdle, stands, twoStage, unserved}
 use Rattle.parts.specs.Parts.{cores, units}
@@ -186,7 +187,7 @@ Oldest t u k n =
     (k .0 < cores) ×
     (inLine (registerOf t u (k .0)) ≡ true) ×
     (registerOf t u (k .0) .ticket ≡ n) ×
-    ((j : ℕ) → j < cores → j ≢ k .0 → inLine (registerOf t u j) ≡ true → older (n .0) (registerOf t u j .ticket .0) ≡ true)
+    ((j : ℕ) → j < cores → j ≢ k .0 → inLine (registerOf t u j) ≡ true → compare (n .0) (registerOf t u j .ticket .0) ≡ Older)
 
 -- whoever is next is so
 pub oldest-won :

@@ -8,7 +8,7 @@ use native.Mathlib.Omega.{arith}
 use lib.Dec.{leb}
 use borrow.Author.Tests.{lt-leb, leb-true}
 use Rattle.ticket.specs.Kinds.{ticket}
-use Rattle.ticket.specs.Order.{behind, topBit, after}
+use Rattle.ticket.specs.Order.{behind, compare, after}
 use Rattle.ticket.specs.declared.kinds.Ticket.{Ticket}
 use Rattle.parts.specs.Parts.{cores, coreNo, unitNo}
 use Rattle.parts.specs.Range.{inRange, perClass}
@@ -125,5 +125,5 @@ pub not-inventing :
     (1 ∷ 0 ∷ []) ∷
     (0 ∷ 1 ∷ 0 ∷ 2 ∷ []) ∷
     []
-unfolding behind topBit after upTo coreSound unitSound sound onSound step over
+unfolding behind compare after upTo coreSound unitSound sound onSound step over
 not-inventing = refl

@@ -1,17 +1,21 @@
--- Demands 1 and 2, of a step: what holds of every step of every table that a program holds.
-use Prim.Native.Nat.{_≤_, _<_}
-use mathlib.Core.Bool.{true}
+-- Demands 1 and 2, of a step: what holds of every step of every table that a program holds; and what its comparisons meet.
+use Prim.Native.Nat.{ℕ, _≤_, _<_}
+use mathlib.Core.Bool.{true, false}
 use mathlib.Core.List.{List·Memᴰ}
+use mathlib.Core.Logic.{_⊎_, _≢_}
 use mathlib.Core.Path.{_≡_}
 use Rattle.ticket.specs.declared.kinds.Grant.{Grant}
+use Rattle.ticket.specs.Order.{circle, compare}
 use Rattle.ticket.specs.declared.kinds.Ticket.{Ticket}
-use Rattle.parts.specs.State.{waits}
+use Rattle.ticket.specs.declared.order.Comparison.the-variants.{Older, Younger, Opposite}
+use Rattle.parts.specs.State.{isIdle, waits}
+use Rattle.parts.specs.Parts.{cores, units}
 use Rattle.parts.specs.Answer.{numberOf}
 use Rattle.parts.specs.declared.kinds.Counts.{Counts}
 use Rattle.parts.specs.declared.answer.Step.{Step}
 use Rattle.parts.specs.declared.answer.Grants.the-variants.{Two}
 use Rattle.refusals.specs.declared.verdict.Verdict.the-variants.{Allowed}
-use Rattle.block.specs.Table.{coreOf, unitCount, Shaped}
+use Rattle.block.specs.Table.{coreOf, registerOf, unitCount, Shaped}
 use Rattle.block.specs.Sound.{sound}
 use Rattle.block.specs.Settle.{settle}
 use Rattle.block.specs.Steps.{verdict, awaited, moves, refusal, step}
@@ -48,3 +52,19 @@ pub record GrantsOf (t : Table) (s : Step) : Type 0 where
 
 abbrev pub StepGrants : Type 0
 StepGrants = (t : Table) (s : Step) → Shaped t → sound t ≡ true → GrantsOf t s
+
+-- "picking is shown never to meet opposite in a sound table", nor same: of two cores with valid registers at a unit of either class, one shows
+-- the older ticket. At a second-class unit registers show carried tickets: each is the own ticket of a core that lends it to one core only, the holder of
+-- the unit it waits for or is away from, and does not itself stand where the ticket is borrowed. Tickets fit sixteen bits, as the types have it.
+abbrev pub PickingOrdered : Type 0
+PickingOrdered =
+    (t : Table) (u i k : ℕ) → sound t ≡ true → ((j : ℕ) → j < cores → coreOf t j .own .0 < circle) → u < units → i < cores → k < cores → i ≢ k →
+    let a = registerOf t u i in
+    let b = registerOf t u k in
+    a .valid ≡ true → b .valid ≡ true → (compare (a .ticket .0) (b .ticket .0) ≡ Older) ⊎ (compare (a .ticket .0) (b .ticket .0) ≡ Younger)
+
+-- inheriting does not meet opposite either: the ticket of a core in line, and the one that the holder carries
+abbrev pub InheritingOrdered : Type 0
+InheritingOrdered =
+    (t : Table) (i k : ℕ) → sound t ≡ true → i < cores → k < cores → isIdle (coreOf t i .state) ≡ false → isIdle (coreOf t k .state) ≡ false →
+    compare (coreOf t i .own .0) (coreOf t k .carried .0) ≢ Opposite

@@ -2,14 +2,16 @@
 -- A verdict depends on the counts, on the state of the core that the step names, for N on the unit that it holds and for R on the counter
 -- and the cores up to the count. Past the count a sound table has idle cores alone, whose tickets are not live.
 use Prim.Native.Nat.{ℕ, _+_}
-use mathlib.Core.Bool.{Bool, cond, _&&_, _||_, not}
+use mathlib.Core.Bool.{Bool, true, false, cond, _&&_, _||_, not}
 use mathlib.Core.List.{List}
 use lib.Dec.{leb, ltb}
 use lib.ListN.{getD}
-use Rattle.ticket.specs.Order.{behind, topBit}
+use Rattle.ticket.specs.Order.{compare}
 use Rattle.ticket.specs.declared.kinds.CoreNo.{CoreNo}
 use Rattle.ticket.specs.declared.kinds.Ticket.{Ticket}
 use Rattle.ticket.specs.declared.kinds.UnitNo.{UnitNo}
+use Rattle.ticket.specs.declared.order.Comparison.{Comparison}
+use Rattle.ticket.specs.declared.order.Comparison.the-variants.{Older, Younger, Same, Opposite}
 use Rattle.parts.specs.Fold.{some}
 use Rattle.parts.specs.State.{isIdle, waits, holds, holdsOne, isAway}
 use Rattle.parts.specs.Parts.{idle}
@@ -39,9 +41,13 @@ noUnit n u = leb (n .first + n .second) (u .0)
 abbrev pub wrongClass : Counts → UnitNo → UnitNo → Bool
 wrongClass n held u = ltb (u .0) (n .first) || leb (n .first) (held .0)
 
+-- a ticket that compares so with the counter lies 32,768 or more behind it: Older is 1 to 32,767 behind, Same 0
+abbrev pub far : Comparison → Bool
+far x = elim x [ Older ↦ false | Younger ↦ true | Same ↦ false | Opposite ↦ true ]
+
 -- 15: "some live ticket lies 32,768 or more behind the counter"
 abbrev pub old : Ticket → Core → Bool
-old m c = not (isIdle (c .state)) && topBit (behind (m .0) (c .own .0))
+old m c = not (isIdle (c .state)) && far (compare (c .own .0) (m .0))
 
 abbrev pub stretched : Ticket → List Core → ℕ → Bool
 stretched m cs n = some (λ (k : ℕ). old m (getD cs k idle)) n

@@ -11,15 +11,15 @@ use parts::holds_one;
 use parts::is_away;
 use parts::is_idle;
 use parts::waits;
+use ticket::Comparison;
 use ticket::CoreNo;
 use ticket::Ticket;
 use ticket::UnitNo;
-use ticket::behind;
-use ticket::top_bit;
+use ticket::compare;
 ghost use mathlib.Core.Path.{_≡_};
 ghost use Prim.Native.Nat.{_≤_};
 ghost use Rattle.parts.specs.Parts.{cores};
-ghost use Rattle.refusals.specs.Judge.{noCore, noUnit, wrongClass, old, stretched, mayRequest, mayNest, mayInterrupt, inState, judge};
+ghost use Rattle.refusals.specs.Judge.{noCore, noUnit, wrongClass, far, old, stretched, mayRequest, mayNest, mayInterrupt, inState, judge};
 
 pub enum Verdict {
     Allowed,
@@ -48,13 +48,29 @@ fn wrong_class(counts: Counts, held: UnitNo, u: UnitNo) -> bool
     (u.0 < counts.first) | (held.0 >= counts.first)
 }
 
+// Whether a ticket that compares so with the counter lies 32,768 or more behind it.
+fn far(x: Comparison) -> bool
+    ensures { λ r. ⌜ r ≡ far x ⌝ }
+{
+    match x {
+        // It lies 1 to 32,767 behind.
+        Comparison::Older => false,
+        // It lies 32,769 or more behind, and reads as one still to come.
+        Comparison::Younger => true,
+        // It is what the counter shows, and lies 0 behind. In a sound table this is not met.
+        Comparison::Same => false,
+        // It lies 32,768 behind.
+        Comparison::Opposite => true,
+    }
+}
+
 // A core's ticket is live and lies half the circle or more behind the counter.
 fn old(counter: Ticket, c: Core) -> bool
     ensures { λ r. ⌜ r ≡ old counter c ⌝ }
 {
     let s = c.state;
     let own = c.own;
-    !is_idle(s) & top_bit(behind(counter, own))
+    !is_idle(s) & far(compare(own, counter))
 }
 
 // 15: some live ticket does. The cores past the count are not looked at.

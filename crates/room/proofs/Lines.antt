@@ -10,7 +10,7 @@ use lib.Dec.{leb}
 use lib.ListN.{length, getD, replicate}
 use borrow.Author.Tests.{leb-true}
 use Rattle.ticket.specs.Kinds.{ticket}
-use Rattle.ticket.specs.Order.{circle, older, after}
+use Rattle.ticket.specs.Order.{circle, compare, after}
 use Rattle.ticket.specs.declared.kinds.Grant.{Grant}
 use Rattle.ticket.specs.declared.kinds.Ticket.{Ticket}
 use Rattle.parts.specs.Answer.{numberOf, whose}
@@ -31,7 +31,7 @@ use Rattle.settling.specs.declared.line.Best.{Best}
 use Rattle.settling.specs.declared.line.Best.the-variants.{Nobody, Won}
 use Rattle.refusals.specs.declared.verdict.Verdict.{Verdict}
 use Rattle.refusals.specs.declared.verdict.Verdict.the-variants.{Allowed, Refused}
-use Rattle.effects.specs.Effect.{heir}
+use Rattle.effects.specs.Effect.{heritable, heir}
 use Rattle.effects.specs.declared.kinds.Effect.{Effect}
 use Rattle.block.specs.Settle.{settle}
 use Rattle.block.specs.Sound.{sound}
@@ -102,7 +102,7 @@ module _ (t : Table) (held : Held t) (ok : sound t ≡ true) where
       go (Won j m) e =
           let w = next-won (unitOf t u) j m e in
           let place = first-in t (parts t ok) k l (two-stage (coreOf t k .state) two .live) in
-          pick (older (m .0) (n .0)) m
+          pick (heritable (compare (m .0) (n .0))) m
           (omega (arith, ap (λ (z : Ticket). z .0) (w .1), register-small u (j .0) place (w .2)))
 
   effect-small : (x : Step) → verdict t x ≡ Allowed → Small (effectOn t x)

@@ -5,7 +5,7 @@ use mathlib.Core.List.{List, [], _∷_}
 use mathlib.Core.Path.{_≡_, refl}
 use lib.ListN.{replicate}
 use Rattle.ticket.specs.Kinds.{ticket}
-use Rattle.ticket.specs.Order.{behind, topBit, after}
+use Rattle.ticket.specs.Order.{behind, compare, after}
 use Rattle.parts.specs.Fold.{upTo}
 use Rattle.parts.specs.Parts.{coreNo, unitNo}
 use Rattle.parts.specs.declared.answer.Step.{Step}
@@ -42,7 +42,7 @@ held = lastPlace (λ t x. step t x .table) (fresh (record { cores = 8; first = 8
 
 -- L 0
 pub line-reached : call (runAt 0 0 held 999999) (76 ∷ 9 ∷ 48 ∷ 10 ∷ []) (replicate expectedMost 0) .desk .first .wrote ≡ expectedMost
-unfolding behind topBit after upTo coreSound unitSound sound onSound step over lines ending scan digits
+unfolding behind compare after upTo coreSound unitSound sound onSound step over lines ending scan digits
 line-reached = refl
 
 -- T 8 8 8 65535

@@ -7,7 +7,8 @@ use mathlib.Core.List.{List, [], _∷_, _++_}
 use mathlib.Core.Path.{_≡_, refl}
 use native.Mathlib.Omega.{arith}
 use Rattle.ticket.specs.Kinds.{ticket}
-use Rattle.ticket.specs.Order.{behind, topBit, older, after}
+use Rattle.ticket.specs.Order.{behind, compare, after}
+use Rattle.ticket.specs.declared.order.Comparison.the-variants.{Older}
 use Rattle.parts.specs.Fold.{upTo, every}
 use Rattle.parts.specs.State.{isIdle, stands, holds}
 use Rattle.parts.specs.Parts.{cores, coreNo, unitNo}
@@ -86,35 +87,35 @@ abbrev q : Place
 q = afterAll e meanwhile
 
 pub entered : enters p back 2 0 ≡ true
-unfolding behind topBit after upTo coreSound unitSound sound onSound step over gives
+unfolding behind compare after upTo coreSound unitSound sound onSound step over gives
 entered = refl
 
 pub stays : stretch 2 0 e meanwhile ≡ true
-unfolding behind topBit after upTo coreSound unitSound sound onSound step over gives
+unfolding behind compare after upTo coreSound unitSound sound onSound step over gives
 stays = refl
 
 -- the counter wraps meanwhile
 pub wraps : (e .table .counter .0 ≡ 65535) × (q .table .counter .0 ≡ 1)
-unfolding behind topBit after upTo coreSound unitSound sound onSound step over
+unfolding behind compare after upTo coreSound unitSound sound onSound step over
 wraps = (refl, refl)
 
 -- passed as often as the bound allows: two tickets and one interrupt
 pub exactly : (passed 0 e meanwhile ≡ 3) × (earlier e 2 ≡ 2) × (interruptions e 2 e meanwhile ≡ 1)
-unfolding behind topBit after upTo coreSound unitSound sound onSound step over gives grantsOf
+unfolding behind compare after upTo coreSound unitSound sound onSound step over gives grantsOf
 exactly = (refl, refl, refl)
 
 -- and then granted
 pub at-last : gives 0 2 (grants q (L (coreNo 0))) ≡ true
-unfolding behind topBit after upTo coreSound unitSound sound onSound step over gives
+unfolding behind compare after upTo coreSound unitSound sound onSound step over gives
 at-last = refl
 
 -- core 1's new ticket is 0, and that of core 2 reads older
 pub across :
     (coreOf (q .table) 1 .own .0 ≡ 0) ×
-    (older (coreOf (q .table) 2 .own .0) (coreOf (q .table) 1 .own .0) ≡ true) ×
+    (compare (coreOf (q .table) 2 .own .0) (coreOf (q .table) 1 .own .0) ≡ Older) ×
     (q .issue 2 ≡ 2) ×
     (q .issue 1 ≡ 5)
-unfolding behind topBit after upTo coreSound unitSound sound onSound step over
+unfolding behind compare after upTo coreSound unitSound sound onSound step over
 across = (refl, refl, refl, refl)
 
 -- The bound less one, and the bound without the interrupts, are false.
@@ -152,7 +153,7 @@ pub next-before :
     (gives 0 1 (grants (afterAll e some) (I (coreNo 0))) ≡ true) ×
     (onward (afterAll e some) (I (coreNo 0)) .issue 1 ≡ 1) ×
     (e .issue 2 ≡ 2)
-unfolding behind topBit after upTo coreSound unitSound sound onSound step over gives
+unfolding behind compare after upTo coreSound unitSound sound onSound step over gives
 next-before = (refl, refl, refl, refl, refl)
 
 pub not-by-two :
@@ -178,7 +179,7 @@ pub unpolled :
     (stands (coreOf (asked .table) 0 .state) ≡ true) ×
     (every (λ (j : ℕ). not (holds (coreOf (asked .table) j .state))) cores ≡ true) ×
     (numberOf (step (asked .table) (P (coreNo 0)) .answer) ≡ 1)
-unfolding behind topBit after upTo coreSound unitSound sound onSound step over
+unfolding behind compare after upTo coreSound unitSound sound onSound step over
 unpolled = (refl, refl, refl)
 
 holds-live : (z : State) → holds z ≡ true → isIdle z ≡ false
@@ -214,7 +215,7 @@ pub interrupted :
     (stretch 2 0 e (meanwhile ++ (called ∷ [])) ≡ false) ×
     (gives 0 3 (grants (onward q called) (L (coreNo 0))) ≡ true) ×
     (onward (onward q called) (L (coreNo 0)) .issue 3 ≡ 4)
-unfolding behind topBit after upTo coreSound unitSound sound onSound step over gives
+unfolding behind compare after upTo coreSound unitSound sound onSound step over gives
 interrupted = (refl, refl, refl, refl)
 
 -- a stretch that goes on over an interrupt
@@ -227,7 +228,7 @@ still-ungranted :
     (gives 0 2 (grants (afterAll e (meanwhile ++ (called ∷ []))) (L (coreNo 0))) ≡ false) ×
     (gives 0 3 (grants (afterAll e (meanwhile ++ (called ∷ []))) (L (coreNo 0))) ≡ true) ×
     (onward (afterAll e (meanwhile ++ (called ∷ []))) (L (coreNo 0)) .issue 3 ≡ 4)
-unfolding behind topBit after upTo coreSound unitSound sound onSound step over gives ungranted
+unfolding behind compare after upTo coreSound unitSound sound onSound step over gives ungranted
 still-ungranted = (refl, refl, refl, refl)
 
 pub not-kept-open :

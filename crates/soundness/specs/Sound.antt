@@ -1,11 +1,13 @@
 -- "Sound. A table is sound when: .." The clauses that speak of its cores, in the paragraph's order and words.
 use Prim.Native.Nat.{ℕ, _+_}
-use mathlib.Core.Bool.{Bool, cond, _&&_, _||_, not}
+use mathlib.Core.Bool.{Bool, true, false, cond, _&&_, _||_, not}
 use mathlib.Core.List.{List}
 use lib.Dec.{leb, ltb, eqb}
 use lib.ListN.{getD}
-use Rattle.ticket.specs.Order.{half, behind, older}
+use Rattle.ticket.specs.Order.{compare}
 use Rattle.ticket.specs.declared.kinds.Ticket.{Ticket}
+use Rattle.ticket.specs.declared.order.Comparison.{Comparison}
+use Rattle.ticket.specs.declared.order.Comparison.the-variants.{Older, Younger, Same, Opposite}
 use Rattle.parts.specs.Fold.{every, some}
 use Rattle.parts.specs.State.{isIdle, twoStage, unserved}
 use Rattle.parts.specs.Parts.{cores, idle}
@@ -30,9 +32,12 @@ names n c two =
 abbrev pub named : Counts → Core → Bool
 named n c = isIdle (c .state) || names n c (twoStage (c .state))
 
--- "each lies 1 to 32,768 behind the counter"
+-- "each lies 1 to 32,768 behind the counter": what a ticket that compares so with the counter does; Younger is 32,769 or more, Same 0
+abbrev pub halfBehind : Comparison → Bool
+halfBehind x = elim x [ Older ↦ true | Younger ↦ false | Same ↦ false | Opposite ↦ true ]
+
 abbrev pub recent : Ticket → Core → Bool
-recent m c = isIdle (c .state) || (leb 1 (behind (m .0) (c .own .0)) && leb (behind (m .0) (c .own .0)) half)
+recent m c = isIdle (c .state) || halfBehind (compare (c .own .0) (m .0))
 
 -- "own tickets differ pairwise": core k, which is c, and core j, which is d
 abbrev pub differ : ℕ → Core → ℕ → Core → Bool
@@ -42,10 +47,14 @@ differ k c j d = eqb k j || isIdle (c .state) || isIdle (d .state) || not (eqb (
 abbrev pub lends : Core → Core → Bool
 lends c d = unserved (d .state) && eqb (d .first .0) (c .first .0) && eqb (d .own .0) (c .carried .0)
 
+-- "reads older than the own": what a carried ticket that compares so with the own one does; Opposite cannot be where both lie so behind the counter
+abbrev pub readsOlder : Comparison → Bool
+readsOlder x = elim x [ Older ↦ true | Younger ↦ false | Same ↦ false | Opposite ↦ false ]
+
 -- "a carried ticket that isn't the own one belongs to .., reads older than the own, and occurs only while a second unit is awaited or
 -- held"; what a core without a second unit does not speak of is blank
 abbrev pub inherits : List Core → Core → Bool
-inherits all c = some (λ (j : ℕ). lends c (getD all j idle)) cores && older (c .carried .0) (c .own .0)
+inherits all c = some (λ (j : ℕ). lends c (getD all j idle)) cores && readsOlder (compare (c .carried .0) (c .own .0))
 
 abbrev pub carries : List Core → Core → Bool
 carries all c =

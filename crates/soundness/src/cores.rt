@@ -5,16 +5,16 @@ use parts::Counts;
 use parts::is_idle;
 use parts::two_stage;
 use parts::unserved;
+use ticket::Comparison;
 use ticket::CoreNo;
 use ticket::Ticket;
-use ticket::behind;
-use ticket::older;
+use ticket::compare;
 ghost use mathlib.Core.Path.{_≡_};
 ghost use Prim.Native.Nat.{_<_};
 ghost use lib.ListN.{getD};
 ghost use Rattle.parts.specs.Fold.{every, some};
 ghost use Rattle.parts.specs.Parts.{cores, idle};
-ghost use Rattle.soundness.specs.Sound.{coreSound, within, idleBlank, named, names, recent, differ, carries, lends};
+ghost use Rattle.soundness.specs.Sound.{coreSound, within, idleBlank, named, names, halfBehind, recent, differ, readsOlder, carries, lends};
 
 // Whether every core is sound.
 pub fn cores_sound(counts: Counts, counter: Ticket, all: [Core; CORES]) -> bool
@@ -86,14 +86,29 @@ fn names(counts: Counts, c: Core, two: bool) -> bool
     }
 }
 
+// Whether a ticket that compares so with the counter lies 1 to 32,768 behind it.
+fn half_behind(x: Comparison) -> bool
+    ensures { λ r. ⌜ r ≡ halfBehind x ⌝ }
+{
+    match x {
+        // It lies 1 to 32,767 behind.
+        Comparison::Older => true,
+        // It lies 32,769 or more behind.
+        Comparison::Younger => false,
+        // It lies 0 behind: it is what the counter shows, and still to be issued.
+        Comparison::Same => false,
+        // It lies 32,768 behind.
+        Comparison::Opposite => true,
+    }
+}
+
 // The own ticket lies 1 to 32,768 behind the counter.
 fn recent(counter: Ticket, c: Core) -> bool
     ensures { λ r. ⌜ r ≡ recent counter c ⌝ }
 {
     let s = c.state;
     let own = c.own;
-    let d = behind(counter, own);
-    is_idle(s) | ((1 <= d) & (d <= 32768))
+    is_idle(s) | half_behind(compare(own, counter))
 }
 
 // No other core has the ticket of core k, which is c.
@@ -122,6 +137,22 @@ fn differ(k: CoreNo, c: Core, j: CoreNo, d: Core) -> bool
     (k.0 == j.0) | is_idle(s) | is_idle(z) | !(a.0 == b.0)
 }
 
+// Whether a carried ticket that compares so with the own one reads older.
+fn reads_older(x: Comparison) -> bool
+    ensures { λ r. ⌜ r ≡ readsOlder x ⌝ }
+{
+    match x {
+        // It does.
+        Comparison::Older => true,
+        // A later ticket is never inherited.
+        Comparison::Younger => false,
+        // It is the own one, and not inherited.
+        Comparison::Same => false,
+        // Both would be live, and live tickets lie in one half of the circle: the window refuses such a table.
+        Comparison::Opposite => false,
+    }
+}
+
 // The carried ticket is the own one, or at the second stage an inherited one.
 fn carries(all: [Core; CORES], c: Core) -> bool
     ensures { λ r. ⌜ r ≡ carries all c ⌝ }
@@ -132,7 +163,7 @@ fn carries(all: [Core; CORES], c: Core) -> bool
     let second = c.second;
     let same = carried.0 == own.0;
     if two_stage(s) {
-        same | (lent(all, c) & older(carried, own))
+        same | (lent(all, c) & reads_older(compare(carried, own)))
     } else {
         same & (second.0 == 0)
     }

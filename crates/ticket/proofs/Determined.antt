@@ -11,8 +11,7 @@ use denote.Ref.{now}
 use Rattle.ticket.specs.Determined.{Determines, DeterminesLent, DeterminesLentLeft}
 use Rattle.ticket.proofs.kinds.Grant.of.Reads as grant-of
 use Rattle.ticket.proofs.order.behind.Reads as behind
-use Rattle.ticket.proofs.order.top_bit.Reads as top-bit
-use Rattle.ticket.proofs.order.older.Reads as older
+use Rattle.ticket.proofs.order.compare.Reads as compare
 use Rattle.ticket.proofs.order.after.Reads as after
 use Rattle.ticket.proofs.issue.IssuingUnit.issue.Reads as issue
 use Rattle.ticket.proofs.issue.IssuingUnit.advance as advance
@@ -24,11 +23,8 @@ grant-of-determined κs a x y s t p q = p ∙ sym q
 pub behind-determined : Determines behind.Post
 behind-determined κs a x y s t p q = p ∙ sym q
 
-pub top-bit-determined : Determines top-bit.Post
-top-bit-determined κs a x y s t p q = p ∙ sym q
-
-pub older-determined : Determines older.Post
-older-determined κs a x y s t p q = p ∙ sym q
+pub compare-determined : Determines compare.Post
+compare-determined κs a x y s t p q = p ∙ sym q
 
 pub after-determined : Determines after.Post
 after-determined κs a x y s t p q = p ∙ sym q

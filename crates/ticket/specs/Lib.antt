@@ -3,3 +3,4 @@ pub mod Order
 pub mod Issue
 pub mod Laws
 pub mod Determined
+pub mod Claims

@@ -1,8 +1,10 @@
--- "Ticket a reads as older than b exactly when (a − b) mod 65,536 is at least 32,768."
--- "After 65,535 comes 0."
+-- "The comparison shall answer one of four: older, younger, same, or opposite (exactly 32,768 apart), each under its exact arithmetic
+-- condition." "After 65,535 comes 0."
 use Prim.Native.Nat.{ℕ, _+_, _-_, _%_, _≤_}
-use mathlib.Core.Bool.{Bool}
-use lib.Dec.{leb}
+use mathlib.Core.Bool.{cond}
+use lib.Dec.{eqb, ltb}
+use Rattle.ticket.specs.declared.order.Comparison.{Comparison}
+use Rattle.ticket.specs.declared.order.Comparison.the-variants.{Older, Younger, Same, Opposite}
 
 -- how many tickets there are, and half of them
 abbrev pub circle : ℕ
@@ -15,12 +17,14 @@ half = 32768
 unfoldable pub behind : ℕ → ℕ → ℕ
 behind a b = (a + (circle - b % circle)) % circle
 
--- the top bit of a sixteen-bit difference
-unfoldable pub topBit : ℕ → Bool
-topBit d = leb half d
-
-abbrev pub older : ℕ → ℕ → Bool
-older a b = topBit (behind a b)
+-- what a is, seen from b, by their difference: 0; 32,768; above 32,768; from 1 to 32,767
+unfoldable pub compare : ℕ → ℕ → Comparison
+compare a b =
+    let d = behind a b in
+    cond (eqb d 0) Same
+    (cond (eqb d half) Opposite
+    (cond (ltb half d) Older
+    Younger))
 
 -- the counter's step
 unfoldable pub after : ℕ → ℕ

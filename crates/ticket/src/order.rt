@@ -2,7 +2,16 @@
 use crate::kinds::Ticket;
 ghost use mathlib.Core.Path.{_≡_};
 ghost use Rattle.ticket.specs.Kinds.{ticket};
-ghost use Rattle.ticket.specs.Order.{behind, topBit, older, after};
+ghost use Rattle.ticket.specs.Order.{behind, compare, after};
+
+// What the first of two tickets is, seen from the second.
+pub enum Comparison {
+    Older,
+    Younger,
+    Same,
+    // Exactly half the circle apart: neither is older, and neither younger.
+    Opposite,
+}
 
 // How far `b` lies behind `a`: their difference, cut to sixteen bits.
 pub fn behind(a: Ticket, b: Ticket) -> u16
@@ -11,18 +20,22 @@ pub fn behind(a: Ticket, b: Ticket) -> u16
     std::num::wrapping_sub_u16(a.0, b.0)
 }
 
-// The top bit of a difference: at least half of the circle.
-pub fn top_bit(d: u16) -> bool
-    ensures { λ r. ⌜ r ≡ topBit d ⌝ }
+// What `a` is, seen from `b`: by their difference, after the cut.
+pub fn compare(a: Ticket, b: Ticket) -> Comparison
+    ensures { λ r. ⌜ r ≡ compare (a .0) (b .0) ⌝ }
 {
-    d >= 32768
-}
-
-// Whether `a` reads as older than `b`: the top bit of the difference, after the cut.
-pub fn older(a: Ticket, b: Ticket) -> bool
-    ensures { λ r. ⌜ r ≡ older (a .0) (b .0) ⌝ }
-{
-    top_bit(behind(a, b))
+    let d = behind(a, b);
+    if d == 0 {
+        return Comparison::Same;
+    }
+    if d == 32768 {
+        return Comparison::Opposite;
+    }
+    if d > 32768 {
+        Comparison::Older
+    } else {
+        Comparison::Younger
+    }
 }
 
 // The counter's step: after 65,535 comes 0.

@@ -1,6 +1,6 @@
 -- Every row of the table computes: antt runs the definitions on the row's numbers.
 use mathlib.Core.Path.{refl}
-use Rattle.ticket.specs.Order.{behind, topBit, after}
+use Rattle.ticket.specs.Order.{behind, compare, after}
 use Rattle.parts.specs.Fold.{upTo}
 use Rattle.soundness.specs.Agreement.{unitSound}
 use Rattle.soundness.specs.Sound.{coreSound}
@@ -12,6 +12,6 @@ use Rattle.walks.specs.Walk.{lines}
 use Rattle.vectors.specs.Table.{table, requestAt, Every}
 
 pub every-row : Every table
-unfolding behind topBit after upTo coreSound unitSound sound onSound step requestAt lines ending scan digits
+unfolding behind compare after upTo coreSound unitSound sound onSound step requestAt lines ending scan digits
 every-row =
     (refl, (refl, (refl, (refl, (refl, (refl, (refl, (refl, (refl, (refl, (refl, (refl, (refl, (refl, ((refl, refl, refl), tt)))))))))))))))

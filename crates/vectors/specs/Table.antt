@@ -1,12 +1,14 @@
--- Shown: "Proved, as a single table: older for (65535, 0) yes, (0, 65535) no, (0, 32767) yes, (32767, 0) no, (0, 32768) yes,
--- (32768, 0) yes, (7, 7) no; words 65,536, 262,143 and 131,072; request with ticket 0 live and counter 32,767 answered 0, with counter 32,768 answered 15; the run above."
+-- Shown: "Proved, as a single table: older for (65535, 0) yes, (0, 65535) no, (0, 32767) yes, (32767, 0) no, .., (7, 7) no", where no is younger or
+-- same; "document 01's pairs 32,768 apart now read opposite"; "words 65,536, 262,143 and 131,072; request with ticket 0 live and counter 32,767 answered 0, with counter 32,768 answered 15; the run above."
 use Prim.Native.Nat.{ℕ}
-use mathlib.Core.Bool.{Bool, true, false}
+use mathlib.Core.Bool.{true, false}
 use mathlib.Core.List.{List, [], _∷_}
 use mathlib.Core.Path.{_≡_}
 use lib.ListN.{length, replicate}
 use Rattle.ticket.specs.Kinds.{ticket}
-use Rattle.ticket.specs.Order.{older}
+use Rattle.ticket.specs.Order.{compare}
+use Rattle.ticket.specs.declared.order.Comparison.{Comparison}
+use Rattle.ticket.specs.declared.order.Comparison.the-variants.{Older, Younger, Same, Opposite}
 use Rattle.parts.specs.Parts.{coreNo, unitNo}
 use Rattle.block.specs.Table.{withCounter}
 use Rattle.building.specs.Build.{fresh}
@@ -62,20 +64,20 @@ columns =
 
 -- a row: what is asked, and the document's answer
 pub data Row : Type 0 where
-  is-older : ℕ → ℕ → Bool → Row
+  compares : ℕ → ℕ → Comparison → Row
   word : ℕ → Unpacked → Row
   request-at : ℕ → ℕ → Row
   translates : List ℕ → List ℕ → Row
 
 abbrev pub table : List Row
 table =
-    is-older 65535 0 true ∷
-    is-older 0 65535 false ∷
-    is-older 0 32767 true ∷
-    is-older 32767 0 false ∷
-    is-older 0 32768 true ∷
-    is-older 32768 0 true ∷
-    is-older 7 7 false ∷
+    compares 65535 0 Older ∷
+    compares 0 65535 Younger ∷
+    compares 0 32767 Older ∷
+    compares 32767 0 Younger ∷
+    compares 0 32768 Opposite ∷
+    compares 32768 0 Opposite ∷
+    compares 7 7 Same ∷
     word 65536 (Shown (record { ticket = ticket 0; valid = true; flag = false })) ∷
     word 262143 (Shown (record { ticket = ticket 65535; valid = true; flag = true })) ∷
     word 131072 Bad ∷
@@ -100,7 +102,7 @@ Filled s out =
 
 -- the definitions give the document's answer
 abbrev pub Computes : Row → Type 0
-Computes (is-older a b answer) = older a b ≡ answer
+Computes (compares a b answer) = compare a b ≡ answer
 Computes (word w answer) = unpack w ≡ answer
 Computes (request-at counter answer) = requestAt counter ≡ answer
 Computes (translates s out) = Filled s out

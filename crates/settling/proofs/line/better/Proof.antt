@@ -1,11 +1,12 @@
--- `settling::line::better` meets its contract: the same cases, with the comparison as `older` gives it.
+-- `settling::line::better` meets its contract: the same cases, with `ahead` of `compare` as these give it.
 use borrow.Author.Needs.{needs}
 use mathlib.Core.Bool.{Bool, true, false}
-use mathlib.Core.Path.{_≡_, sym, _∙_}
+use mathlib.Core.Path.{_≡_, sym, _∙_, ap}
 use Rattle.ticket.specs.declared.kinds.CoreNo.{CoreNo}
 use Rattle.ticket.specs.declared.kinds.Ticket.{Ticket}
-use Rattle.ticket.specs.Order.{older}
-use Rattle.settling.specs.Line.{better}
+use Rattle.ticket.specs.Order.{compare}
+use Rattle.ticket.specs.declared.order.Comparison.{Comparison}
+use Rattle.settling.specs.Line.{ahead, better}
 use Rattle.parts.specs.declared.kinds.Register.{Register}
 use Rattle.settling.specs.declared.line.Best.{Best}
 use Rattle.settling.specs.declared.line.Best.the-variants.{Nobody, Won}
@@ -16,12 +17,20 @@ module _ (r : Register) (k : CoreNo) (best : Best) where
   first : best ≡ Nobody → Won k (r .ticket) ≡ better r k best
   first e = rw e
 
-  module _ (j : CoreNo) (t : Ticket) (b : Bool) (is : best ≡ Won j t) (says : b ≡ older (r .ticket .0) (t .0)) where
-    won : b ≡ true → Won k (r .ticket) ≡ better r k best
-    won e = rw (is, sym says ∙ e)
+  module _
+      (j : CoreNo)
+      (t : Ticket)
+      (x : Comparison)
+      (b : Bool)
+      (is : best ≡ Won j t)
+      (tells : x ≡ compare (r .ticket .0) (t .0))
+      (says : b ≡ ahead x)
+    where
+      won : b ≡ true → Won k (r .ticket) ≡ better r k best
+      won e = rw (is, sym (says ∙ ap ahead tells) ∙ e)
 
-    kept : b ≡ false → Won j t ≡ better r k best
-    kept e = rw (is, sym says ∙ e)
+      kept : b ≡ false → Won j t ≡ better r k best
+      kept e = rw (is, sym (says ∙ ap ahead tells) ∙ e)
 
 enum-told : tie.Need-enum-told
 enum-told c = search needs
@@ -29,8 +38,11 @@ enum-told c = search needs
 enum-known-best : tie.Need-enum-known-best
 enum-known-best c = search needs
 
-older-requires : tie.Need-older-requires
-older-requires c κs = search needs
+compare-requires : tie.Need-compare-requires
+compare-requires c κs = search needs
+
+ahead-requires : tie.Need-ahead-requires
+ahead-requires c κs = search needs
 
 returns : tie.Need-returns
 returns c = search first
@@ -43,4 +55,4 @@ returns-3 c = search kept
 
 pub better-spec : {M : Type 1} → statement M
 better-spec =
-    tie.close (tie.spec enum-told enum-known-best older-requires returns returns-2 returns-3)
+    tie.close (tie.spec enum-told enum-known-best compare-requires ahead-requires returns returns-2 returns-3)

@@ -1,29 +1,35 @@
--- `soundness::cores::recent` meets its contract: the definition's own tests of what `is_idle` and `behind` give.
+-- `soundness::cores::recent` meets its contract: what `is_idle` gives, and `half_behind` of `compare`.
 use borrow.Author.Needs.{needs}
-use Prim.Native.Nat.{ℕ}
-use mathlib.Core.Bool.{Bool, _&&_, _||_}
-use mathlib.Core.Path.{_≡_, ap₂}
-use lib.Dec.{leb}
-use Rattle.ticket.specs.Order.{half, behind}
+use mathlib.Core.Bool.{Bool, _||_}
+use mathlib.Core.Path.{_≡_, _∙_, ap, ap₂}
+use Rattle.ticket.specs.Order.{compare}
 use Rattle.ticket.specs.declared.kinds.Ticket.{Ticket}
+use Rattle.ticket.specs.declared.order.Comparison.{Comparison}
 use Rattle.parts.specs.State.{isIdle}
-use Rattle.soundness.specs.Sound.{recent}
+use Rattle.soundness.specs.Sound.{halfBehind, recent}
 use Rattle.parts.specs.declared.kinds.Core.{Core}
 use Rattle.soundness.proofs.cores.recent.Statement.{statement}
 use Rattle.soundness.proofs.cores.recent.Tie as tie
 
 window :
-    (m : Ticket) (c : Core) (d : ℕ) (b : Bool) → d ≡ behind (m .0) (c .own .0) → b ≡ isIdle (c .state) → (b || (leb 1 d && leb d half)) ≡ recent m c
-window m c d b distance idle = ap₂ (λ (x : Bool) (n : ℕ). x || (leb 1 n && leb n half)) idle distance
-
-behind-requires : tie.Need-behind-requires
-behind-requires c κs = search needs
+    (m : Ticket) (c : Core) (x : Comparison) (b r : Bool) →
+    b ≡ isIdle (c .state) →
+    x ≡ compare (c .own .0) (m .0) →
+    r ≡ halfBehind x →
+    (b || r) ≡ recent m c
+window m c x b r idle says lies = ap₂ _||_ idle (lies ∙ ap halfBehind says)
 
 is-idle-requires : tie.Need-is-idle-requires
 is-idle-requires c κs = search needs
+
+compare-requires : tie.Need-compare-requires
+compare-requires c κs = search needs
+
+half-behind-requires : tie.Need-half-behind-requires
+half-behind-requires c κs = search needs
 
 returns : tie.Need-returns
 returns c = search window
 
 pub recent-spec : {M : Type 1} → statement M
-recent-spec = tie.close (tie.spec behind-requires is-idle-requires returns)
+recent-spec = tie.close (tie.spec is-idle-requires compare-requires half-behind-requires returns)

@@ -1,0 +1,53 @@
+-- What the comparison meets. Every ticket that a sound table shows or carries is the own ticket of a live core, so any two lie in the half
+-- circle behind the counter and are not opposite; and the tickets of two registers of a unit differ.
+use Prim.Native.Nat.{ℕ, _<_}
+use mathlib.Core.Bool.{true, false}
+use mathlib.Core.Logic.{_≢_}
+use mathlib.Core.Path.{_≡_}
+use Rattle.ticket.specs.Order.{compare}
+use Rattle.ticket.specs.declared.order.Comparison.the-variants.{Opposite}
+use Rattle.parts.specs.Fold.{some}
+use Rattle.parts.specs.State.{isIdle}
+use Rattle.parts.specs.Parts.{cores}
+use Rattle.block.specs.Table.{coreOf, registerOf}
+use Rattle.block.specs.Sound as S
+use Rattle.block.specs.declared.table.Table.{Table}
+use Rattle.ticket.proofs.Laws.{total, never-opposite}
+use Rattle.parts.proofs.Folds.{some-at}
+use Rattle.block.proofs.Parts.{parts}
+use Rattle.laws.specs.Claims.{PickingOrdered, InheritingOrdered}
+use Rattle.laws.proofs.Columns.{lent, sound-almost}
+use Rattle.laws.proofs.Kept.{recent-window, live-window, carried-window, unserved-live}
+use Rattle.laws.proofs.Oldest.{shown-differ, shown-recent}
+
+pub picking-ordered : PickingOrdered
+picking-ordered t u i k ok fits place h l d v w =
+    let a = sound-almost t (parts t ok) in
+    let r = registerOf t u i .ticket .0 in
+    let q = registerOf t u k .ticket .0 in
+    let x = shown-recent t a u place (record { own = fits }) i h v in
+    let y = shown-recent t a u place (record { own = fits }) k l w in
+    total (t .counter .0) r q (x .1) (y .1) (x .0) (y .0) (shown-differ t a u place i k h l d v w)
+
+pub inheriting-ordered : InheritingOrdered
+inheriting-ordered t i k ok h l live live' =
+    let s = parts t ok in
+    never-opposite (t .counter .0) (coreOf t i .own .0) (coreOf t k .carried .0) (live-window t s i h live) (carried-window t s k l live')
+
+-- Of any table: where all live tickets lie in the window, no lent ticket is opposite to the own one. So it makes no table sound or unsound
+-- what the clause about carried tickets says of Opposite.
+pub lent-ordered :
+    (t : Table) →
+    ((j : ℕ) → j < cores → S.recent t (coreOf t j) ≡ true) →
+    (k : ℕ) →
+    k < cores →
+    isIdle (coreOf t k .state) ≡ false →
+    some (λ (j : ℕ). S.lends (coreOf t k) (coreOf t j)) cores ≡ true →
+    compare (coreOf t k .carried .0) (coreOf t k .own .0) ≢ Opposite
+lent-ordered t recent k h live some-lends =
+    let c = coreOf t k in
+    let j = some-at (λ (j : ℕ). S.lends c (coreOf t j)) cores some-lends in
+    let d = coreOf t (j .0) in
+    let l = lent c d (j .2) in
+    let wd = rw (l .own) at (recent-window t d (unserved-live (d .state) (l .unserved)) (recent (j .0) (j .1))) in
+    never-opposite (t .counter .0) (c .carried .0) (c .own .0) wd (recent-window t c live (recent k h))
