@@ -11,14 +11,16 @@ class Table:
         self.reg = [[None] * cores for _ in range(first + second)]
 
 
-def older(a, b):
-    return (a - b) % 65536 >= 32768
+def compare(a, b):
+    """What a is, seen from b."""
+    d = (a - b) % 65536
+    return "same" if d == 0 else "younger" if d < 32768 else "opposite" if d == 32768 else "older"
 
 
 def oldest(tickets):
     """The ticket older than all others, of a set that lies within half the circle."""
     for t in tickets:
-        if all(u == t or older(t, u) for u in tickets):
+        if all(u == t or compare(t, u) == "older" for u in tickets):
             return t
     return None
 
@@ -61,7 +63,7 @@ def step(t, letter, k, u=None):
     if letter == "N" and (u < t.a or c["first"] >= t.a):
         return 13, 0, []
     if letter == "R":
-        if any(d["state"] != "idle" and (t.counter - d["own"]) % 65536 >= 32768 for d in t.core):
+        if any(d["state"] != "idle" and compare(d["own"], t.counter) in ("younger", "opposite") for d in t.core):
             return 15, 0, []
         n = t.counter
         t.counter = (t.counter + 1) % 65536
@@ -79,7 +81,7 @@ def step(t, letter, k, u=None):
             return 1, c["carried"], settle(t)
         if s == SECOND:
             best = oldest([r[0] for r in t.reg[c["first"]] if r and not r[1]])
-            if best is not None and older(best, c["carried"]):
+            if best is not None and compare(best, c["carried"]) == "older":
                 c["carried"] = best
                 t.reg[at][k][0] = best
         return 2, c["carried"], settle(t)

@@ -91,10 +91,42 @@ impl Outcome {
     }
 }
 
-/// The top bit of the wrapped difference.
+/// What one ticket is, seen from another.
+#[derive(Clone, Copy, PartialEq, Eq, Debug)]
+pub enum Comparison {
+    Older,
+    Younger,
+    Same,
+    /// Exactly half the circle apart.
+    Opposite,
+}
+
+impl Comparison {
+    pub fn word(self) -> &'static str {
+        match self {
+            Comparison::Older => "older",
+            Comparison::Younger => "younger",
+            Comparison::Same => "same",
+            Comparison::Opposite => "opposite",
+        }
+    }
+}
+
+/// What `a` is, seen from `b`: the wrapped difference read as a signed number, of
+/// which the least has no counterpart.
+#[inline]
+pub fn compare(a: u16, b: u16) -> Comparison {
+    match a.wrapping_sub(b) as i16 {
+        0 => Comparison::Same,
+        i16::MIN => Comparison::Opposite,
+        i16::MIN..=-1 => Comparison::Older,
+        1..=i16::MAX => Comparison::Younger,
+    }
+}
+
 #[inline]
 pub fn older(a: u16, b: u16) -> bool {
-    a.wrapping_sub(b) >= 0x8000
+    compare(a, b) == Comparison::Older
 }
 
 pub fn counts_in_range(cores: u16, first_class: u16, second_class: u16) -> bool {
@@ -155,8 +187,14 @@ impl Table {
             return Outcome::refused(12);
         }
         let ticket = self.counter;
-        let stretched =
-            |core: &Core| core.state != State::Idle && ticket.wrapping_sub(core.own) >= 0x8000;
+        let stretched = |core: &Core| {
+            core.state != State::Idle
+                && match compare(core.own, ticket) {
+                    // 32,768 behind, and further.
+                    Comparison::Opposite | Comparison::Younger => true,
+                    Comparison::Older | Comparison::Same => false,
+                }
+        };
         if self.core.iter().any(stretched) {
             return Outcome::refused(15);
         }
@@ -340,8 +378,12 @@ impl Table {
         if core.state == State::Idle {
             return *core == Core::default();
         }
-        let behind = self.counter.wrapping_sub(core.own);
-        if !(1..=0x8000).contains(&behind) || core.first >= self.units() {
+        let recent = match compare(core.own, self.counter) {
+            // 1 to 32,767 behind, and 32,768.
+            Comparison::Older | Comparison::Opposite => true,
+            Comparison::Younger | Comparison::Same => false,
+        };
+        if !recent || core.first >= self.units() {
             return false;
         }
         let mut others = self.core.iter().enumerate().filter(|(d, _)| *d != c);
@@ -417,17 +459,36 @@ mod tests {
     }
 
     #[test]
-    fn older_as_listed() {
+    fn compared_as_listed() {
         for (a, b, expected) in [
-            (65535, 0, true),
-            (0, 65535, false),
-            (0, 32767, true),
-            (32767, 0, false),
-            (0, 32768, true),
-            (32768, 0, true),
-            (7, 7, false),
+            (65535, 0, "older"),
+            (0, 65535, "younger"),
+            (0, 32767, "older"),
+            (32767, 0, "younger"),
+            (0, 32768, "opposite"),
+            (32768, 0, "opposite"),
+            (7, 7, "same"),
         ] {
-            assert_eq!(older(a, b), expected, "{a} {b}");
+            assert_eq!(compare(a, b).word(), expected, "{a} {b}");
+        }
+    }
+
+    /// Every difference, from tickets on both sides of a wrap.
+    #[test]
+    fn compared_by_the_difference() {
+        for b in [0u16, 1, 7, 32_767, 32_768, 65_535] {
+            for d in 0..=65_535u16 {
+                let expected = if d == 0 {
+                    Comparison::Same
+                } else if d < 32_768 {
+                    Comparison::Younger
+                } else if d == 32_768 {
+                    Comparison::Opposite
+                } else {
+                    Comparison::Older
+                };
+                assert_eq!(compare(b.wrapping_add(d), b), expected, "{d} on from {b}");
+            }
         }
     }
 

@@ -224,7 +224,7 @@ fn unblank(rng: &mut Rng, register: &mut Register) {
 }
 
 /// Number of ways to break a table.
-pub const WAYS: u64 = 25;
+pub const WAYS: u64 = 26;
 
 /// Breaks one clause of soundness where the table has a place for it. Some
 /// changes leave it sound, so that both sides of an edge are met.
@@ -416,13 +416,26 @@ fn break_table(rng: &mut Rng, table: &mut Table, way: u64) -> Option<()> {
             stand(table);
             fix_flags(rng, table);
         }
-        // Tickets shown.
         22 => {
+            // The carried ticket lies half the circle from the own one, or just beside.
+            let c = some_core(rng, table, |_, core| core.carried != core.own)?;
+            let d = some_core(rng, table, |d, core| {
+                d != c && busy(core) && core.own == table.core[c].carried
+            })?;
+            let away = rng.pick(&[32_767, 32_768, 32_768, 32_769]);
+            reticket(table, d, table.core[c].own.wrapping_add(away));
+            if rng.chance(50) {
+                let lender = table.core[d].own;
+                table.counter = lender.wrapping_add(rng.pick(&[1, 32_767, 32_768]));
+            }
+        }
+        // Tickets shown.
+        23 => {
             let ticket = any_ticket(rng, table);
             some_register(rng, table, |_, _, r| r.valid)?.ticket = ticket;
         }
         // States.
-        23 => {
+        24 => {
             let c = some_core(rng, table, |c, _| c < cores)?;
             table.core[c].state = rng.pick(&STATES);
             if rng.chance(30) {
