@@ -95,7 +95,8 @@ module _ (t : Table) (k : ℕ) (h : k < cores) (s : sound t ≡ true) (at : stan
   pub two-calm : (v : ℕ) → v < units → v ≢ was .first .0 → v ≢ was .second .0 → Calm (unitOf (twoCleared t k) v)
   two-calm v l d d' = subst Calm (sym (unit-other (oneCleared t k) (was .second .0) v _ d')) (one-calm v l d)
 
--- Polling: what the step leaves when it finds its flag set, and when it inherits the ticket n; and the ticket that it inherits
+-- Polling: what the step leaves when it finds its flag set, and when it carries the ticket n; and the ticket that it carries: the oldest
+-- of its own and those in line at its first unit
 
 abbrev pub holding : Table → ℕ → Table
 holding t k = affected t k (hold (t .counter) (coreOf t k))
@@ -104,7 +105,7 @@ abbrev pub carrying : Table → ℕ → Ticket → Table
 carrying t k n = affected t k (inherit (t .counter) (coreOf t k) n)
 
 abbrev pub inherited : Table → Core → Ticket
-inherited t c = heir (c .carried) (next (unitOf t (c .first .0)))
+inherited t c = heir (c .own) (next (unitOf t (c .first .0)))
 
 -- the effect of a poll, by the flag and then by the stage
 pub poll-cases :

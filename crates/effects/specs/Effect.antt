@@ -54,12 +54,14 @@ served z =
 abbrev pub hold : Ticket → Core → Effect
 hold m c = makes (core (c .own) (c .carried) (c .first) (c .second) (served (c .state))) Stay Granted (c .carried) m
 
--- "Inheriting: take the oldest ticket among valid registers with flag clear at the first unit. If it is older than the carried
--- ticket, it becomes the carried ticket and goes into the second unit's register. Otherwise nothing changes."
--- Whether a ticket that compares so with the carried one is inherited: Same was inherited before, Opposite is not met in a sound table.
+-- "Each poll answered 2 at the second stage sets the carried ticket to the oldest of the own ticket and the waiters then at the first unit"
+-- (document 02, wish 2), and it goes into the second unit's register. What was carried before does not count.
+-- Whether the best ticket in line, which compares so with the own one, is carried: Older is, Younger is not; Same and Opposite are not met in
+-- a sound table, where own tickets differ and lie in one half of the circle.
 abbrev pub heritable : Comparison → Bool
 heritable x = elim x [ Older ↦ true | Younger ↦ false | Same ↦ false | Opposite ↦ true ]
 
+-- the older of the own ticket n and the one next in line
 abbrev pub heir : Ticket → Best → Ticket
 heir n best = elim best [ Nobody ↦ n | Won j t ↦ cond (heritable (compare (t .0) (n .0))) t n ]
 
@@ -71,7 +73,7 @@ wait m c = makes c Stay NotYet (c .carried) m
 
 -- "Flag clear: answer 2, and at the second stage it inherits"
 abbrev pub poll : Ticket → Core → Bool → Best → Effect
-poll m c flag next = cond flag (hold m c) (cond (twoStage (c .state)) (inherit m c (heir (c .carried) next)) (wait m c))
+poll m c flag next = cond flag (hold m c) (cond (twoStage (c .state)) (inherit m c (heir (c .own) next)) (wait m c))
 
 abbrev pub stepEffect : Step → Ticket → Core → Bool → Best → Effect
 stepEffect (R k u) m c flag next = request u m

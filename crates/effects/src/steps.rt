@@ -113,35 +113,29 @@ fn served(s: State) -> State
     }
 }
 
-// Whether a ticket that compares so with the carried one is inherited.
+// Whether the best ticket in line, which compares so with the own one, is carried.
 fn heritable(x: Comparison) -> bool
     ensures { λ r. ⌜ r ≡ heritable x ⌝ }
 {
     match x {
-        // It is older than the carried one, and takes its place.
+        // It is older than the own one: the core carries it.
         Comparison::Older => true,
-        // The carried ticket is the older one, and stays.
+        // The own ticket is the older one, and is carried, whatever was carried before.
         Comparison::Younger => false,
-        // It was inherited already, and its owner still waits: nothing changes.
+        // Not met in a sound table, whose own tickets differ: either is the ticket to carry.
         Comparison::Same => false,
-        // Not met in a sound table, whose live tickets lie in one half of the circle: it would be inherited.
+        // Not met in a sound table, whose live tickets lie in one half of the circle: it would be carried.
         Comparison::Opposite => true,
     }
 }
 
-// The older of a carried ticket and the one next in line.
-fn heir(carried: Ticket, best: Best) -> Ticket
-    ensures { λ r. ⌜ r ≡ heir carried best ⌝ }
+// The older of a core's own ticket and the one next in line.
+fn heir(own: Ticket, best: Best) -> Ticket
+    ensures { λ r. ⌜ r ≡ heir own best ⌝ }
 {
     match best {
-        Best::Nobody => carried,
-        Best::Won(_, m) => {
-            if heritable(compare(m, carried)) {
-                m
-            } else {
-                carried
-            }
-        }
+        Best::Nobody => own,
+        Best::Won(_, m) => { if heritable(compare(m, own)) { m } else { own } }
     }
 }
 
@@ -163,7 +157,7 @@ fn hold(counter: Ticket, c: Core) -> Effect
     }
 }
 
-// Flag clear at the second stage: it inherits the ticket n.
+// Flag clear at the second stage: it carries the ticket n from now on, and shows it at its second unit.
 fn inherit(counter: Ticket, c: Core, n: Ticket) -> Effect
     ensures { λ r. ⌜ r ≡ inherit counter c n ⌝ }
 {
@@ -200,14 +194,14 @@ fn poll(n: u16, counter: Ticket, k: CoreNo, c: Core, x: LockUnit, y: LockUnit) -
     ensures { λ r. ⌜ r ≡ poll counter c (registerIn y (k .0) .flag) (nextOf n x) ⌝ }
 {
     let s = c.state;
-    let carried = c.carried;
+    let own = c.own;
     let i = k.0 as usize;
     let r = y.registers[i];
     if r.flag {
         return hold(counter, c);
     }
     if two_stage(s) {
-        return inherit(counter, c, heir(carried, next_of(n, x)));
+        return inherit(counter, c, heir(own, next_of(n, x)));
     }
     wait(counter, c)
 }

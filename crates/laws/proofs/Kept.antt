@@ -37,11 +37,11 @@ use Rattle.block.specs.Sound as S
 use Rattle.block.specs.Parts.{Sound}
 use Rattle.block.specs.Steps.{verdict, effectOn, affected, moves}
 use Rattle.block.specs.declared.table.Table.{Table}
-use Rattle.ticket.proofs.Laws.{seen, transitive, never-opposite}
+use Rattle.ticket.proofs.Laws.{seen, never-opposite}
 use Rattle.ticket.proofs.Circle.{behind-leads, behind-only, behind-self}
 use Rattle.parts.proofs.Along.{same-or-not}
 use Rattle.parts.proofs.Bools.{and-left, and-right, and-both, or-left, or-right, or-cases, clash}
-use Rattle.parts.proofs.Folds.{some-at, at-some, some-none, count-unique}
+use Rattle.parts.proofs.Folds.{at-some, some-none, count-unique}
 use Rattle.settling.proofs.Picking.{next-won}
 use Rattle.block.proofs.Allows.{may-request, may-nest, may-poll, may-come-back, may-interrupt, may-release}
 use Rattle.block.proofs.Standing.{units-few}
@@ -49,7 +49,7 @@ use Rattle.block.proofs.Stepping.{holding, carrying, inherited, poll-moves}
 use Rattle.laws.proofs.Almost.{Almost}
 use Rattle.laws.proofs.Agreeing.{shows, in-line-at}
 use Rattle.laws.proofs.Moving.{Moved, entered, affected-shaped, affected-moved}
-use Rattle.laws.proofs.Columns.{lent, lending, lenders-others, sound-few, sound-almost, small, column-changed, stays, staying, stayed}
+use Rattle.laws.proofs.Columns.{lending, lenders-others, sound-few, sound-almost, small, column-changed, stays, staying, stayed}
 
 -- the units that a core names
 module _ (t : Table) (c : Core) where
@@ -249,81 +249,30 @@ unserved-live WaitingSecond e = refl
 unserved-live HoldingBoth e = refl
 unserved-live Away e = refl
 
--- a carried ticket is the own ticket of a live core, and so lies in the window too
-pub carried-window :
-    (t : Table) →
-    Sound t →
-    (k : ℕ) →
-    k < cores →
-    isIdle (coreOf t k .state) ≡ false →
-    Window (t .counter .0) (coreOf t k .carried .0)
-carried-window t s k h live = go (twoStage (coreOf t k .state)) (s .core k h .carries)
-  where
-    c : Core
-    c = coreOf t k
-
-    own : eqb (c .carried .0) (c .own .0) ≡ true → Window (t .counter .0) (c .carried .0)
-    own q = rw (eqb-true (c .carried .0) (c .own .0) q) (live-window t s k h live)
-
-    lender : S.inherits t c ≡ true → Window (t .counter .0) (c .carried .0)
-    lender i =
-        let p : ℕ → Bool = λ (j : ℕ). S.lends c (coreOf t j) in
-        let j = some-at p cores (and-left (some p cores) _ i) in
-        let l = lent c (coreOf t (j .0)) (j .2) in
-        rw (l .own) at (live-window t s (j .0) (j .1) (unserved-live (coreOf t (j .0) .state) (l .unserved)))
-
-    go :
-        (two : Bool) →
-        cond two (eqb (c .carried .0) (c .own .0) || S.inherits t c) (eqb (c .carried .0) (c .own .0) && eqb (c .second .0) 0) ≡ true →
-        Window (t .counter .0) (c .carried .0)
-    go true e = ⊎-elim own lender (or-cases (eqb (c .carried .0) (c .own .0)) _ e)
-    go false e = own (and-left (eqb (c .carried .0) (c .own .0)) _ e)
-
-reads-older : (x : Comparison) → readsOlder x ≡ true → x ≡ Older
-reads-older Older e = refl
-reads-older Younger e = absurd (clash e refl)
-reads-older Same e = absurd (clash e refl)
-reads-older Opposite e = absurd (clash e refl)
-
--- what the register in line shows may be inherited
+-- the own ticket may be carried, and so may an older one that a register in line shows
 module _ (t : Table) (s : Sound t) (k : ℕ) (small : k < cores) (e : coreOf t k .state ≡ WaitingSecond) where
   second-two : Two t (coreOf t k)
   second-two = names-two t (coreOf t k) (simp e at (s .core k small .named))
 
-  kept-ticket : S.carries t (stays (coreOf t k) (coreOf t k .carried) (coreOf t k .second) WaitingSecond) ≡ true
-  kept-ticket = simp e at (s .core k small .carries)
+  own-ticket : S.carries t (stays (coreOf t k) (coreOf t k .own) (coreOf t k .second) WaitingSecond) ≡ true
+  own-ticket = or-left _ (eq-eqb (coreOf t k .own .0) (coreOf t k .own .0) refl)
 
   own-window : Window (t .counter .0) (coreOf t k .own .0)
   own-window = live-window t s k small (ap isIdle e)
-
-  -- older than the carried ticket is older than the own one
-  older-own : (m : ℕ) → Window (t .counter .0) m → compare m (coreOf t k .carried .0) ≡ Older → compare m (coreOf t k .own .0) ≡ Older
-  older-own m w o = ⊎-elim own lender (or-cases (eqb (coreOf t k .carried .0) (coreOf t k .own .0)) _ kept-ticket)
-    where
-      own : eqb (coreOf t k .carried .0) (coreOf t k .own .0) ≡ true → compare m (coreOf t k .own .0) ≡ Older
-      own q = rw (eqb-true (coreOf t k .carried .0) (coreOf t k .own .0) q) at o
-
-      lender : S.inherits t (coreOf t k) ≡ true → compare m (coreOf t k .own .0) ≡ Older
-      lender h =
-          let c = coreOf t k in
-          let wc = carried-window t s k small (ap isIdle e) in
-          transitive (t .counter .0) m (c .carried .0) (c .own .0) w wc own-window o
-          (reads-older (compare (c .carried .0) (c .own .0)) (and-right (some (λ (j : ℕ). S.lends c (coreOf t j)) cores) _ h))
 
   new-ticket :
       (j : ℕ) (m : Ticket) →
       j < cores →
       WaitsAt (coreOf t j) (coreOf t k .first .0) m →
-      compare (m .0) (coreOf t k .carried .0) ≡ Older →
+      compare (m .0) (coreOf t k .own .0) ≡ Older →
       S.carries t (stays (coreOf t k) m (coreOf t k .second) WaitingSecond) ≡ true
   new-ticket j m h w o =
       let c' = stays (coreOf t k) m (coreOf t k .second) WaitingSecond in
-      let wm = rw (w .own) at (live-window t s j h (ap isIdle (w .state))) in
       or-right (eqb (m .0) (coreOf t k .own .0))
       (and-both
       (at-some (λ (i : ℕ). S.lends c' (coreOf t i)) cores j h
       (lending c' (coreOf t j) (record { unserved = ap unserved (w .state); first = w .first; own = w .own })))
-      (ap readsOlder (older-own (m .0) wm o)))
+      (ap readsOlder o))
 
   inherited-ticket : S.carries t (stays (coreOf t k) (inherited t (coreOf t k)) (coreOf t k .second) WaitingSecond) ≡ true
   inherited-ticket = go (next (unitOf t (coreOf t k .first .0))) refl
@@ -332,20 +281,20 @@ module _ (t : Table) (s : Sound t) (k : ℕ) (small : k < cores) (e : coreOf t k
           (x : Comparison) (j : ℕ) (m : Ticket) →
           j < cores →
           WaitsAt (coreOf t j) (coreOf t k .first .0) m →
-          compare (m .0) (coreOf t k .carried .0) ≡ x →
-          S.carries t (stays (coreOf t k) (cond (heritable x) m (coreOf t k .carried)) (coreOf t k .second) WaitingSecond) ≡ true
+          compare (m .0) (coreOf t k .own .0) ≡ x →
+          S.carries t (stays (coreOf t k) (cond (heritable x) m (coreOf t k .own)) (coreOf t k .second) WaitingSecond) ≡ true
       pick Older j m h w o = new-ticket j m h w o
-      pick Younger j m h w o = kept-ticket
-      pick Same j m h w o = kept-ticket
+      pick Younger j m h w o = own-ticket
+      pick Same j m h w o = own-ticket
       pick Opposite j m h w o =
           let wm = rw (w .own) at (live-window t s j h (ap isIdle (w .state))) in
-          absurd (never-opposite (t .counter .0) (m .0) (coreOf t k .carried .0) wm (carried-window t s k small (ap isIdle e)) o)
+          absurd (never-opposite (t .counter .0) (m .0) (coreOf t k .own .0) wm own-window o)
 
       go :
           (b : Best) →
           next (unitOf t (coreOf t k .first .0)) ≡ b →
-          S.carries t (stays (coreOf t k) (heir (coreOf t k .carried) b) (coreOf t k .second) WaitingSecond) ≡ true
-      go Nobody q = kept-ticket
+          S.carries t (stays (coreOf t k) (heir (coreOf t k .own) b) (coreOf t k .second) WaitingSecond) ≡ true
+      go Nobody q = own-ticket
       go (Won j m) q =
           let c = coreOf t k in
           let w = next-won (unitOf t (c .first .0)) j m q in
@@ -356,7 +305,7 @@ module _ (t : Table) (s : Sound t) (k : ℕ) (small : k < cores) (e : coreOf t k
           (s .unit (c .first .0) place .agrees (j .0) (w .2))
           (w .0)
           in
-          pick (compare (m .0) (c .carried .0)) (j .0) m (w .2) (rw (w .1) at line) refl
+          pick (compare (m .0) (c .own .0)) (j .0) m (w .2) (rw (w .1) at line) refl
 
 -- Each step, before settling
 

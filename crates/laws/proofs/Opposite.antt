@@ -1,23 +1,24 @@
 -- What the comparison meets. Every ticket that a sound table shows or carries is the own ticket of a live core, so any two lie in the half
--- circle behind the counter and are not opposite; and the tickets of two registers of a unit differ.
+-- circle behind the counter and are not opposite; and the tickets of two registers of a unit differ, as do the own tickets of two cores.
 use Prim.Native.Nat.{ℕ, _<_}
-use mathlib.Core.Bool.{true, false}
+use mathlib.Core.Bool.{true, false, not}
 use mathlib.Core.Logic.{_≢_}
-use mathlib.Core.Path.{_≡_}
+use mathlib.Core.Path.{_≡_, ap}
 use Rattle.ticket.specs.Order.{compare}
 use Rattle.ticket.specs.declared.order.Comparison.the-variants.{Opposite}
 use Rattle.parts.specs.Fold.{some}
-use Rattle.parts.specs.State.{isIdle}
+use Rattle.parts.specs.State.{isIdle, twoStage}
 use Rattle.parts.specs.Parts.{cores}
 use Rattle.block.specs.Table.{coreOf, registerOf}
 use Rattle.block.specs.Sound as S
 use Rattle.block.specs.declared.table.Table.{Table}
 use Rattle.ticket.proofs.Laws.{total, never-opposite}
+use Rattle.parts.proofs.Bools.{and-both, clash}
 use Rattle.parts.proofs.Folds.{some-at}
 use Rattle.block.proofs.Parts.{parts}
 use Rattle.laws.specs.Claims.{PickingOrdered, InheritingOrdered}
-use Rattle.laws.proofs.Columns.{lent, sound-almost}
-use Rattle.laws.proofs.Kept.{recent-window, live-window, carried-window, unserved-live}
+use Rattle.laws.proofs.Columns.{lent, sound-almost, differ-apart}
+use Rattle.laws.proofs.Kept.{names-two, first-place, recent-window, live-window, two-stage, in-line-waits, unserved-live}
 use Rattle.laws.proofs.Oldest.{shown-differ, shown-recent}
 
 pub picking-ordered : PickingOrdered
@@ -29,10 +30,22 @@ picking-ordered t u i k ok fits place h l d v w =
     let y = shown-recent t a u place (record { own = fits }) k l w in
     total (t .counter .0) r q (x .1) (y .1) (x .0) (y .0) (shown-differ t a u place i k h l d v w)
 
+-- a register in line at a first-class unit shows the own ticket of a core that waits, which is another core than the one that holds the unit
 pub inheriting-ordered : InheritingOrdered
-inheriting-ordered t i k ok h l live live' =
+inheriting-ordered t i k ok fits h l two v clear =
     let s = parts t ok in
-    never-opposite (t .counter .0) (coreOf t i .own .0) (coreOf t k .carried .0) (live-window t s i h live) (carried-window t s k l live')
+    let c = coreOf t k in
+    let d = coreOf t i in
+    let live = two-stage (c .state) two .live in
+    let low = names-two t c (simp (live, two) at (s .core k l .named)) .first in
+    let r = registerOf t (c .first .0) i in
+    let place = first-place t (sound-almost t s) k l live in
+    let w = in-line-waits t d (c .first .0) r low (s .core i h .named) (s .unit (c .first .0) place .agrees i h) (and-both v (ap not clear)) in
+    let waits = ap isIdle (w .state) in
+    let other : i ≢ k = λ q. clash two (rw q at (ap twoStage (w .state))) in
+    rw (w .own) at
+    (total (t .counter .0) (d .own .0) (c .own .0) (live-window t s i h waits) (live-window t s k l live) (fits i h) (fits k l)
+    (differ-apart t i k other (s .core i h .differ k l) waits live))
 
 -- Of any table: where all live tickets lie in the window, no lent ticket is opposite to the own one. So it makes no table sound or unsound
 -- what the clause about carried tickets says of Opposite.

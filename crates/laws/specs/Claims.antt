@@ -7,8 +7,8 @@ use mathlib.Core.Path.{_≡_}
 use Rattle.ticket.specs.declared.kinds.Grant.{Grant}
 use Rattle.ticket.specs.Order.{circle, compare}
 use Rattle.ticket.specs.declared.kinds.Ticket.{Ticket}
-use Rattle.ticket.specs.declared.order.Comparison.the-variants.{Older, Younger, Opposite}
-use Rattle.parts.specs.State.{isIdle, waits}
+use Rattle.ticket.specs.declared.order.Comparison.the-variants.{Older, Younger}
+use Rattle.parts.specs.State.{waits, twoStage}
 use Rattle.parts.specs.Parts.{cores, units}
 use Rattle.parts.specs.Answer.{numberOf}
 use Rattle.parts.specs.declared.kinds.Counts.{Counts}
@@ -63,8 +63,12 @@ PickingOrdered =
     let b = registerOf t u k in
     a .valid ≡ true → b .valid ≡ true → (compare (a .ticket .0) (b .ticket .0) ≡ Older) ⊎ (compare (a .ticket .0) (b .ticket .0) ≡ Younger)
 
--- inheriting does not meet opposite either: the ticket of a core in line, and the one that the holder carries
+-- inheriting meets neither opposite nor same: what a register in line at the first unit of a core with a second one shows, and the core's own
+-- ticket
 abbrev pub InheritingOrdered : Type 0
 InheritingOrdered =
-    (t : Table) (i k : ℕ) → sound t ≡ true → i < cores → k < cores → isIdle (coreOf t i .state) ≡ false → isIdle (coreOf t k .state) ≡ false →
-    compare (coreOf t i .own .0) (coreOf t k .carried .0) ≢ Opposite
+    (t : Table) (i k : ℕ) → sound t ≡ true → ((j : ℕ) → j < cores → coreOf t j .own .0 < circle) → i < cores → k < cores →
+    let c = coreOf t k in
+    let a = registerOf t (c .first .0) i in
+    twoStage (c .state) ≡ true → a .valid ≡ true → a .flag ≡ false →
+    (compare (a .ticket .0) (c .own .0) ≡ Older) ⊎ (compare (a .ticket .0) (c .own .0) ≡ Younger)

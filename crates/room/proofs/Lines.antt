@@ -91,14 +91,14 @@ module _ (t : Table) (held : Held t) (ok : sound t ≡ true) where
       u = coreOf t k .first .0
 
       n : Ticket
-      n = coreOf t k .carried
+      n = coreOf t k .own
 
       pick : (b : Bool) (m : Ticket) → m .0 < circle → cond b m n .0 < circle
       pick true m h = h
-      pick false m h = held .carried k
+      pick false m h = held .own k
 
       go : (b : Best) → next (unitOf t u) ≡ b → heir n b .0 < circle
-      go Nobody e = held .carried k
+      go Nobody e = held .own k
       go (Won j m) e =
           let w = next-won (unitOf t u) j m e in
           let place = first-in t (parts t ok) k l (two-stage (coreOf t k .state) two .live) in

@@ -17,7 +17,7 @@ module _ (m : Ticket) (c : Core) (flag : Bool) (b : Best) (e : Effect) where
   holds set is = rw set is
 
   module _ (two : Bool) (says : two ≡ twoStage (c .state)) (clear : flag ≡ false) where
-    inherits : (w : Best) (n : Ticket) → two ≡ true → w ≡ b → n ≡ heir (c .carried) w → e ≡ inherit m c n → e ≡ poll m c flag b
+    inherits : (w : Best) (n : Ticket) → two ≡ true → w ≡ b → n ≡ heir (c .own) w → e ≡ inherit m c n → e ≡ poll m c flag b
     inherits w n t ew en is = rw (clear, sym says ∙ t) (rw (en, ew) at is)
 
     waits : two ≡ false → e ≡ wait m c → e ≡ poll m c flag b
