@@ -247,6 +247,12 @@ for step, answer, counter, cores, shown in [
         method(now, "I 1", "0 1 1 0 2", ((3, 1, 1), 2, {0: zero, 1: (1, 1, 0, 0, AWAY), 2: two}, {**held, (0, 2): (0, 1, 1)}))
         method(now, "L 1", "12 0 0")
         method(now, "C 1", "12 0 0")
+        # what it inherited stands while its giver goes away, and the next poll gives it back
+        left = {0: zero, 1: (1, 0, 0, 1, WAITING_SECOND), 2: (0, 0, 0, 0, AWAY)}
+        gone = ((3, 1, 1), 2, left, {**held, (0, 1): (1, 1, 1), (1, 1): (0, 1, 0)})
+        method(now, "I 2", "0 0 0", gone)
+        left = {**left, 1: (1, 1, 0, 1, WAITING_SECOND)}
+        method(gone, "P 1", "2 1 0", ((3, 1, 1), 2, left, {**held, (0, 1): (1, 1, 1), (1, 1): (1, 1, 0)}))
     then = ((3, 1, 1), counter, cores, shown)
     method(now, step, answer, then)
     now = then

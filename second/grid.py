@@ -1,5 +1,5 @@
 #!/usr/bin/env python3
-"""The answers of crates/grid, made from document 01 alone: a plain model of its table and steps, which shares nothing with the
+"""The answers of crates/grid, made from documents 01 and 02 alone: a plain model of its table and steps, which shares nothing with the
 crates. `second/grid.py` prints what crates/grid/stdout must hold."""
 
 
@@ -80,10 +80,8 @@ def step(t, letter, k, u=None):
             c["state"] = HOLDING if s == WAITING else BOTH
             return 1, c["carried"], settle(t)
         if s == SECOND:
-            best = oldest([r[0] for r in t.reg[c["first"]] if r and not r[1]])
-            if best is not None and compare(best, c["carried"]) == "older":
-                c["carried"] = best
-                t.reg[at][k][0] = best
+            c["carried"] = oldest([c["own"]] + [r[0] for r in t.reg[c["first"]] if r and not r[1]])
+            t.reg[at][k][0] = c["carried"]
         return 2, c["carried"], settle(t)
     if letter == "I":
         give_up(t, k)
@@ -109,6 +107,8 @@ STARTS = [
     ("holding a second-class unit", [("R", 0, 2), ("R", 1, 2), ("P", 0)]),
     ("waiting at a second, flag clear", [("R", 1, 2), ("R", 0, 0), ("P", 0), ("R", 2, 0), ("N", 0, 2)]),
     ("the same with an older ticket to inherit", [("R", 2, 0), ("R", 1, 2), ("R", 0, 0), ("I", 2), ("P", 0), ("N", 0, 2), ("C", 2)]),
+    ("the same after it inherited and the giver was interrupted",
+     [("R", 2, 0), ("R", 1, 2), ("R", 0, 0), ("I", 2), ("P", 0), ("N", 0, 2), ("C", 2), ("P", 0), ("I", 2)]),
     ("waiting at a second, flag set and not polled", [("R", 0, 0), ("P", 0), ("R", 1, 0), ("N", 0, 2)]),
     ("holding both", [("R", 0, 0), ("P", 0), ("R", 1, 0), ("N", 0, 2), ("R", 2, 2), ("P", 0)]),
     ("away", [("R", 1, 0), ("R", 0, 0), ("I", 0)]),

@@ -1132,10 +1132,11 @@ pub fn compare(options: &Options) -> i32 {
         listed(&tally.numbers, |number| format!("{number}:"))
     );
     println!(
-        "in good scripts: second-stage waits {}, inherited {}, granted by an inherited ticket {}, \
+        "in good scripts: second-stage waits {}, inherited {}, given back {}, granted by an inherited ticket {}, \
          second-stage interrupts {}, interrupts of an unpolled flag {}, returns {}, two grants {}",
         seen.second_stage_waits,
         seen.inherited,
+        seen.given_back,
         seen.granted_by_inherited,
         seen.second_stage_interrupts,
         seen.unpolled_interrupts,

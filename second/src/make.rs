@@ -3,12 +3,14 @@
 
 use crate::rng::Rng;
 use crate::script::{put_header, put_step};
-use crate::table::{older, Kind, Outcome, State, Step, Table};
+use crate::table::{older, Core, Kind, Outcome, State, Step, Table};
 
 /// What happened in made scripts, beyond letters and answers.
 #[derive(Clone, Default, Debug)]
 pub struct Seen {
     pub inherited: u64,
+    /// Polls after which a core carries a younger ticket than before.
+    pub given_back: u64,
     /// Second unit granted to a core that carries another's ticket.
     pub granted_by_inherited: u64,
     pub second_stage_waits: u64,
@@ -22,6 +24,7 @@ pub struct Seen {
 impl Seen {
     pub fn add(&mut self, other: &Seen) {
         self.inherited += other.inherited;
+        self.given_back += other.given_back;
         self.granted_by_inherited += other.granted_by_inherited;
         self.second_stage_waits += other.second_stage_waits;
         self.second_stage_interrupts += other.second_stage_interrupts;
@@ -217,7 +220,10 @@ impl Maker {
                 seen.second_stage_interrupts += (before.state == State::WaitingSecond) as u64;
                 seen.unpolled_interrupts += flagged as u64;
             }
-            Kind::Poll if answer == 2 => seen.inherited += (before.carried != after.carried) as u64,
+            Kind::Poll if answer == 2 => {
+                seen.inherited += older(after.carried, before.carried) as u64;
+                seen.given_back += older(before.carried, after.carried) as u64;
+            }
             Kind::Poll => seen.granted_by_inherited += (after.carried != after.own) as u64,
             _ => {}
         }
@@ -257,7 +263,9 @@ impl Maker {
     }
 
     /// The next step on the way to an inherited ticket: an older core that
-    /// returns to the unit held first by one that waits at its second.
+    /// returns to the unit held first by one that waits at its second. Half the
+    /// time, where one is carried, the next on the way back: its giver goes away,
+    /// and the heir polls.
     fn aimed_step(&mut self) -> Option<Step> {
         let table = &self.table;
         let cores = table.cores as usize;
@@ -270,6 +278,7 @@ impl Maker {
         };
         let flag = |unit: u16, c: usize| table.unit[unit as usize][c].flag;
         let offset = self.rng.index(cores);
+        let back = self.rng.chance(50);
         let mut away = None;
         let mut nest = None;
         let mut oust = None;
@@ -288,6 +297,15 @@ impl Maker {
                 State::WaitingSecond if !flag(core.second, a) => {
                     if older_here(State::Waiting).is_some() {
                         return step(Kind::Poll, a, 0);
+                    }
+                    if back && core.carried != core.own {
+                        let lent = |c: &Core| c.state != State::Idle && c.own == core.carried;
+                        match (0..cores).find(|b| lent(&table.core[*b])) {
+                            Some(b) if table.core[b].state == State::Waiting => {
+                                return step(Kind::Interrupt, b, 0)
+                            }
+                            _ => return step(Kind::Poll, a, 0),
+                        }
                     }
                     away = away.or(older_here(State::Away));
                 }
@@ -512,6 +530,7 @@ mod tests {
             seen.add(&maker.seen);
         }
         assert!(seen.inherited > 500);
+        assert!(seen.given_back > 100);
         assert!(seen.granted_by_inherited > 50);
         assert!(seen.second_stage_interrupts > 500);
         assert!(seen.unpolled_interrupts > 500);

@@ -255,11 +255,12 @@ impl Table {
         }
     }
 
-    /// Gives the carried ticket after the attempt to inherit.
+    /// Sets the carried ticket to the oldest of the own one and those that wait
+    /// at the first unit now, and gives it. What was carried before is let go.
     fn inherit(&mut self, c: usize) -> u16 {
         let core = self.core[c];
-        let mut carried = core.carried;
-        // Taking each older one in turn ends at the oldest, or at the carried one.
+        let mut carried = core.own;
+        // Taking each older one in turn ends at the oldest, or at the own one.
         for register in &self.unit[core.first as usize][..self.cores as usize] {
             if register.valid && !register.flag && older(register.ticket, carried) {
                 carried = register.ticket;
@@ -560,7 +561,7 @@ mod tests {
     }
 
     #[test]
-    fn inherits_from_the_first_unit_and_drops_it_when_interrupted() {
+    fn inherits_from_the_first_unit_and_gives_it_back() {
         let mut table = Table::fresh(4, 1, 1, 65_534).unwrap();
         make(&mut table, Request, 3, 1); // 65534 keeps the second unit
         make(&mut table, Poll, 3, 0);
@@ -574,9 +575,15 @@ mod tests {
         assert_eq!(make(&mut table, Continue, 0, 0), (0, 65_535, vec![]));
         assert_eq!(make(&mut table, Poll, 1, 0), (2, 65_535, vec![]));
         assert_eq!(table.unit[1][1].ticket, 65_535);
-        // It stays when its giver goes away.
+        // Its giver goes away: it stands until the next poll, which gives it back.
         make(&mut table, Interrupt, 0, 0);
+        assert_eq!(table.unit[1][1].ticket, 65_535);
+        assert_eq!(make(&mut table, Poll, 1, 0), (2, 0, vec![]));
+        assert_eq!((table.core[1].carried, table.unit[1][1].ticket), (0, 0));
+        // Back again, it gives again; an interrupt of the heir drops it too.
+        make(&mut table, Continue, 0, 0);
         assert_eq!(make(&mut table, Poll, 1, 0), (2, 65_535, vec![]));
+        make(&mut table, Interrupt, 0, 0);
         assert_eq!(make(&mut table, Interrupt, 1, 0), (0, 0, vec![]));
         assert_eq!(make(&mut table, Continue, 1, 0), (0, 0, vec![(0, 1)]));
         // A flag nobody polled does not mask the interrupt.

@@ -2,7 +2,7 @@
 // 15, 16 and 20. Writes for each step its answer, ticket, number of grants, and unit and core of each
 // grant, parted by tabs.
 //
-// The stored output is what second/grid.py prints: a model written from document 01 alone.
+// The stored output is what second/grid.py prints: a model written from documents 01 and 02 alone.
 use block::Stepped;
 use block::Table;
 use libc::STDOUT_FILENO;
@@ -23,6 +23,7 @@ fn main() {
     tries(holding_second_class());
     tries(waiting_second());
     tries(heir());
+    tries(giver_gone());
     tries(unpolled_second());
     tries(holding_both());
     tries(away());
@@ -109,6 +110,12 @@ fn heir() -> Table {
     let t = poll(t, CoreNo(0));
     let t = nest(t, CoreNo(0), UnitNo(2));
     come_back(t, CoreNo(2))
+}
+
+// Core 0 the same after it inherited and the giver was interrupted: its poll gives the ticket back.
+fn giver_gone() -> Table {
+    let t = poll(heir(), CoreNo(0));
+    interrupt(t, CoreNo(2))
 }
 
 // Core 0 waiting at a second, flag set and not polled.
