@@ -32,7 +32,7 @@ use Rattle.places.specs.Places.{inCores, inUnits, corePlace, unitPlace, otherPl
 use Rattle.refusals.specs.Judge.{unless, noCore, judge}
 use Rattle.refusals.specs.declared.verdict.Verdict.{Verdict}
 use Rattle.refusals.specs.declared.verdict.Verdict.the-variants.{Allowed, Refused}
-use Rattle.settling.specs.Line.{nextOf, next, won}
+use Rattle.settling.specs.Line.{next, won}
 use Rattle.settling.specs.Settle.{enter, leave}
 use Rattle.settling.specs.declared.line.Best.{Best}
 use Rattle.settling.specs.declared.settle.Settled.{Settled}
@@ -58,7 +58,7 @@ use Rattle.block.proofs.Touching.{settled-none, settled-one, settled-tw
 use Rattle.block.proofs.Settling.{changes, frees}
 use Rattle.block.proofs.Standing.{no-and, bare, bare-one, sound-calm}
 use Rattle.block.proofs.Stepping.{calm-elsewhere, oneCleared, twoCleared, first-unit, second-unit, clears-one, clears-two, one-calm, two-calm, waiting-stands, holding, carrying, inherited, poll-cases, same-core, carrying-calm, awaited-second}
-use Rattle.block.proofs.Entering.{Past, next-counted, enter-settles, leave-settles}
+use Rattle.block.proofs.Entering.{Past, next-here, enter-settles, leave-settles}
 use Rattle.block.proofs.Allows.{is-idle, may-request, may-nest, may-poll, may-interrupt, may-come-back, may-release}
 use Rattle.block.proofs.Answering.{cores-in, request-in, nest-in, poll-in, interrupt-in, come-back-in, release-in}
 
@@ -305,23 +305,23 @@ module _ (t : Table) (shaped : Shaped t) (ok : sound t ≡ true) (k : CoreNo) (w
         let i = inUnits (c .first) in
         let j = cond (twoStage (c .state)) (inUnits (c .second)) (inUnits (c .first)) in
         putBack t k i j
-        (carryOut (stepEffect (P k) (t .counter) c (registerIn (unitOf t (j .0)) (k .0) .flag) (nextOf n (unitOf t (i .0)))) n k c (unitOf t (i .0)) (unitOf t (j .0))) ≡
+        (carryOut (stepEffect (P k) (t .counter) c (registerIn (unitOf t (j .0)) (k .0) .flag) (next n (unitOf t (i .0)))) n k c (unitOf t (i .0)) (unitOf t (j .0))) ≡
         performed t (P k)
     poll-here =
         ap
         (λ (i : UnitNo).
         let j = cond (twoStage (c .state)) (inUnits (c .second)) (inUnits (c .first)) in
         putBack t k i j
-        (carryOut (stepEffect (P k) (t .counter) c (registerIn (unitOf t (j .0)) (k .0) .flag) (nextOf n (unitOf t (i .0)))) n k c (unitOf t (i .0)) (unitOf t (j .0))))
+        (carryOut (stepEffect (P k) (t .counter) c (registerIn (unitOf t (j .0)) (k .0) .flag) (next n (unitOf t (i .0)))) n k c (unitOf t (i .0)) (unitOf t (j .0))))
         (unit-itself (c .first) first-there) ∙
         ap
         (λ (j : UnitNo).
         putBack t k (c .first) j
-        (carryOut (stepEffect (P k) (t .counter) c (registerIn (unitOf t (j .0)) (k .0) .flag) (nextOf n (unitOf t (c .first .0)))) n k c (unitOf t (c .first .0)) (unitOf t (j .0))))
+        (carryOut (stepEffect (P k) (t .counter) c (registerIn (unitOf t (j .0)) (k .0) .flag) (next n (unitOf t (c .first .0)))) n k c (unitOf t (c .first .0)) (unitOf t (j .0))))
         awaited-place ∙
         ap
         (λ (b : Best). polled (stepEffect (P k) (t .counter) c (registerOf t (awaited c) (k .0) .flag) b))
-        (sym (next-counted n (unitOf t (c .first .0)) few (past (c .first .0) first-there))) ∙
+        (sym (next-here n (unitOf t (c .first .0)) few (past (c .first .0) first-there))) ∙
         polls
 
 -- The step whole
@@ -336,7 +336,7 @@ whole t s k v =
     let y = unitOf t (j .0) in
     putBack t k i j
     (decided v (t .counter) c x y
-    (carryOut (stepEffect s (t .counter) c (registerIn y (k .0) .flag) (nextOf (t .counts .cores) x)) (t .counts .cores) k c x y))
+    (carryOut (stepEffect s (t .counter) c (registerIn y (k .0) .flag) (next (t .counts .cores) x)) (t .counts .cores) k c x y))
 
 off : (b : Bool) (v : Verdict) → b ≡ true → unless b NoCore v ≡ Refused NoCore
 off true v e = refl

@@ -2,10 +2,10 @@
 -- has nobody in line, so whoever enters it wins; one with a flag has one alone, so it is free when that core leaves, and only then. What
 -- stands past the count of cores is blank, and is not looked at.
 use Prim.Native.Nat.{ℕ, _+_, _≤_, _<_}
-use mathlib.Core.Bool.{Bool, true, false, cond, not}
+use mathlib.Core.Bool.{Bool, true, false, cond, _&&_, not}
 use mathlib.Core.List.{List}
 use mathlib.Core.Logic.{_⊎_, inl, inr, _≢_}
-use mathlib.Core.Path.{_≡_, refl, sym, _∙_, ap, ap₂, subst}
+use mathlib.Core.Path.{_≡_, refl, sym, _∙_, ap}
 use native.Mathlib.Nat.{add-zero}
 use native.Mathlib.Omega.{arith}
 use lib.Dec.{eqb}
@@ -14,20 +14,18 @@ use lib.Seq.{getD-set-same, getD-set-other, set-set}
 use borrow.Author.Tests.{eqb-true, eqb-false, eq-eqb, ne-eqb}
 use Rattle.ticket.specs.declared.kinds.CoreNo.{CoreNo}
 use Rattle.ticket.specs.declared.kinds.Ticket.{Ticket}
-use Rattle.parts.specs.Fold.{upTo, one}
-use Rattle.parts.specs.Parts.{cores, coreNo, blank, standing, flagged, registerIn, registered}
+use Rattle.parts.specs.Fold.{one}
+use Rattle.parts.specs.Parts.{cores, blank, standing, flagged, registerIn, registered}
 use Rattle.parts.specs.declared.kinds.Register.{Register}
 use Rattle.parts.specs.declared.kinds.LockUnit.{LockUnit}
 use Rattle.soundness.specs.Agreement.{anyValid, oneFlag}
-use Rattle.settling.specs.Line.{flagsOf, flags, inLine, better, consider, nextOf, next}
+use Rattle.settling.specs.Line.{flags, inLine, next}
 use Rattle.settling.specs.Settle.{given, enter, leave}
 use Rattle.settling.specs.declared.line.Best.{Best}
 use Rattle.settling.specs.declared.line.Best.the-variants.{Nobody, Won}
-use Rattle.settling.specs.declared.settle.Settled.{Settled}
 use Rattle.parts.proofs.Along.{same-or-not}
-use Rattle.parts.proofs.Bools.{and-left, clash}
 use Rattle.parts.proofs.Folds.{at-some, some-none, count-unique, none-count}
-use Rattle.settling.proofs.Picking.{next-won, nobody-next}
+use Rattle.settling.proofs.Picking.{next-alone, next-counted}
 use Rattle.block.proofs.Touched.{settledUnit}
 use Rattle.block.proofs.Touching.{still}
 use Rattle.block.proofs.Standing.{one-none}
@@ -38,16 +36,13 @@ abbrev pub Past : ℕ → LockUnit → Type 0
 Past n x = (j : ℕ) → n ≤ j → j < cores → registerIn x j ≡ blank
 
 module _ (n : ℕ) (x : LockUnit) (few : n ≤ cores) (past : Past n x) where
-  pub next-counted : next x ≡ nextOf n x
-  next-counted =
-      still (consider x) Nobody (nextOf n x) n cores refl
-      (λ v l m. ap (λ (r : Register). cond (inLine r) (better r (coreNo v) (nextOf n x)) (nextOf n x)) (past v l m))
-      few
+  pub next-here : next cores x ≡ next n x
+  next-here = next-counted n cores x few (λ j l m. ap inLine (past j l m))
 
-  pub flags-counted : flags x ≡ flagsOf n x
+  pub flags-counted : flags cores x ≡ flags n x
   flags-counted =
-      still (λ (k m : ℕ). m + one (registerIn x k .flag)) 0 (flagsOf n x) n cores refl
-      (λ v l m. ap (λ (r : Register). flagsOf n x + one (r .flag)) (past v l m) ∙ add-zero (flagsOf n x))
+      still (λ (k m : ℕ). m + one (registerIn x k .flag)) 0 (flags n x) n cores refl
+      (λ v l m. ap (λ (r : Register). flags n x + one (r .flag)) (past v l m) ∙ add-zero (flags n x))
       few
 
 -- a unit whose register of core k changed
@@ -77,15 +72,15 @@ module _
     small : k .0 < cores
     small = omega arith
 
-    flags-are : flags x ≡ one (anyValid x)
-    flags-are = eqb-true (flags x) (one (anyValid x)) one-flag
+    flags-are : flags cores x ≡ one (anyValid x)
+    flags-are = eqb-true (flags cores x) (one (anyValid x)) one-flag
 
     -- who settles a unit, by whether it has a flag
-    settled-held : (y : LockUnit) → (flags y ≡ 0 → ⊥) → settledUnit y ≡ given y Nobody
-    settled-held y d = ap (λ (b : Bool). cond b (given y (next y)) (given y Nobody)) (ne-eqb (flags y) 0 d)
+    settled-held : (y : LockUnit) → (flags cores y ≡ 0 → ⊥) → settledUnit y ≡ given y Nobody
+    settled-held y d = ap (λ (b : Bool). cond b (given y (next cores y)) (given y Nobody)) (ne-eqb (flags cores y) 0 d)
 
-    settled-free : (y : LockUnit) (w : Best) → flags y ≡ 0 → next y ≡ w → settledUnit y ≡ given y w
-    settled-free y w none is = ap (λ (b : Bool). cond b (given y (next y)) (given y Nobody)) (eq-eqb (flags y) 0 none) ∙ ap (given y) is
+    settled-free : (y : LockUnit) (w : Best) → flags cores y ≡ 0 → next cores y ≡ w → settledUnit y ≡ given y w
+    settled-free y w none is = ap (λ (b : Bool). cond b (given y (next cores y)) (given y Nobody)) (eq-eqb (flags cores y) 0 none) ∙ ap (given y) is
 
     -- Entering
 
@@ -93,56 +88,44 @@ module _
       abbrev stood : LockUnit
       stood = registered x (k .0) (standing t)
 
-      same-flags : flags stood ≡ flags x
+      same-flags : flags cores stood ≡ flags cores x
       same-flags = flags-kept x (k .0) (standing t) (ap (λ (r : Register). r .flag) bare)
 
       here : registerIn stood (k .0) ≡ standing t
       here = changed-here x (k .0) (standing t) long small
 
       -- nobody else stands in a free unit
-      alone : flags x ≡ 0 → next stood ≡ Won k t
-      alone none = go (next stood) refl
+      alone : flags cores x ≡ 0 → next cores stood ≡ Won k t
+      alone none = next-alone cores stood (k .0) small (ap inLine here) others ∙ ap (λ (r : Register). Won k (r .ticket)) here
         where
           invalid : (j : ℕ) → j < cores → registerIn x j .valid ≡ false
           invalid = some-none (λ (j : ℕ). registerIn x j .valid) cores (one-none (anyValid x) (sym none ∙ flags-are))
 
-          go : (w : Best) → next stood ≡ w → w ≡ Won k t
-          go Nobody e = absurd (clash (ap inLine here) (nobody-next stood e (k .0) small))
-          go (Won j m) e = wins (same-or-not (j .0) (k .0)) (next-won stood j m e)
-            where
-              wins :
-                  (j .0 ≡ k .0) ⊎ (j .0 ≢ k .0) →
-                  (inLine (registerIn stood (j .0)) ≡ true) × (registerIn stood (j .0) .ticket ≡ m) × (j .0 < cores) →
-                  Won j m ≡ Won k t
-              wins (inl q) w =
-                  ap₂ Won (ap coreNo q)
-                  (sym (w .1) ∙ ap (λ (i : ℕ). registerIn stood i .ticket) q ∙ ap (λ (r : Register). r .ticket) here)
-              wins (inr d) w =
-                  absurd
-                  (clash
-                  (and-left (registerIn stood (j .0) .valid) (not (registerIn stood (j .0) .flag)) (w .0))
-                  (ap (λ (r : Register). r .valid) (changed-there x (k .0) (standing t) (j .0) d) ∙ invalid (j .0) (w .2)))
+          others : (j : ℕ) → j < cores → j ≢ k .0 → inLine (registerIn stood j) ≡ false
+          others j h d =
+              ap inLine (changed-there x (k .0) (standing t) j d) ∙
+              ap (λ (b : Bool). b && not (registerIn x j .flag)) (invalid j h)
 
       pub enter-settles : enter n x k t ≡ settledUnit stood
-      enter-settles = go (eqb (flagsOf n x) 0) refl
+      enter-settles = go (eqb (flags n x) 0) refl
         where
-          counted : flags x ≡ flagsOf n x
+          counted : flags cores x ≡ flags n x
           counted = flags-counted n x few past
 
           go :
               (b : Bool) →
-              eqb (flagsOf n x) 0 ≡ b →
+              eqb (flags n x) 0 ≡ b →
               cond b
               (record { unit = registered x (k .0) (flagged (standing t)); winner = Won k t })
               (record { unit = stood; winner = Nobody }) ≡
               settledUnit stood
           go true e =
-              let none = counted ∙ eqb-true (flagsOf n x) 0 e in
+              let none = counted ∙ eqb-true (flags n x) 0 e in
               sym
               (settled-free stood (Won k t) (same-flags ∙ none) (alone none) ∙
               ap (λ (r : Register). record { unit = registered stood (k .0) (flagged r); winner = Won k t }) here ∙
               ap (λ (y : LockUnit). record { unit = y; winner = Won k t }) (changed-twice x (k .0) (standing t) (flagged (standing t))))
-          go false e = sym (settled-held stood (λ none. eqb-false (flagsOf n x) 0 e (sym counted ∙ sym same-flags ∙ none)))
+          go false e = sym (settled-held stood (λ none. eqb-false (flags n x) 0 e (sym counted ∙ sym same-flags ∙ none)))
 
     -- Leaving
 
@@ -151,11 +134,11 @@ module _
       gone = registered x (k .0) blank
 
       -- the unit has one flag
-      one-only : flags x ≡ 1
+      one-only : flags cores x ≡ 1
       one-only = flags-are ∙ ap one (at-some (λ (j : ℕ). registerIn x j .valid) cores (k .0) small valid)
 
       -- and none where it was core k's
-      freed : registerIn x (k .0) .flag ≡ true → flags gone ≡ 0
+      freed : registerIn x (k .0) .flag ≡ true → flags cores gone ≡ 0
       freed mine = none-count (λ (j : ℕ). registerIn gone j .flag) cores (λ j h. clear j h (same-or-not j (k .0)))
         where
           clear : (j : ℕ) → j < cores → (j ≡ k .0) ⊎ (j ≢ k .0) → registerIn gone j .flag ≡ false
@@ -174,8 +157,8 @@ module _
           go :
               (b : Bool) →
               registerIn x (k .0) .flag ≡ b →
-              cond b (given gone (nextOf n gone)) (record { unit = gone; winner = Nobody }) ≡ settledUnit gone
+              cond b (given gone (next n gone)) (record { unit = gone; winner = Nobody }) ≡ settledUnit gone
           go true e =
-              sym (settled-free gone (nextOf n gone) (freed e) (next-counted n gone few (past-changed x (k .0) blank n within past)))
+              sym (settled-free gone (next n gone) (freed e) (next-here n gone few (past-changed x (k .0) blank n within past)))
           go false e =
               sym (settled-held gone (λ none. let z = sym (flags-kept x (k .0) blank e) ∙ none in let w = one-only in omega arith))

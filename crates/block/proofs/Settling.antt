@@ -11,7 +11,7 @@ use lib.ListN.{getD, set}
 use lib.Seq.{set-set, set-comm}
 use Rattle.ticket.specs.declared.kinds.Ticket.{Ticket}
 use Rattle.ticket.specs.declared.kinds.UnitNo.{UnitNo}
-use Rattle.parts.specs.Parts.{blank, flagged, absentUnit, registerIn, registered}
+use Rattle.parts.specs.Parts.{cores, blank, flagged, absentUnit, registerIn, registered}
 use Rattle.block.specs.Table.{unitOf, withUnit, withRegister, withCore}
 use Rattle.parts.specs.Answer.{packed}
 use Rattle.settling.specs.Line.{flags, next, won}
@@ -57,10 +57,10 @@ module _ (t : Table) (u : ℕ) (x : LockUnit) (at : unitOf (withUnit t u x) u �
 
   put-settled : settleAt before u ≡ put (settledUnit x)
   put-settled =
-      ap (λ (z : LockUnit). gave (winner z)) at ∙ go (eqb (flags x) 0)
+      ap (λ (z : LockUnit). gave (winner z)) at ∙ go (eqb (flags cores x) 0)
     where
-      go : (b : Bool) → gave (cond b (next x) Nobody) ≡ put (cond b (given x (next x)) (given x Nobody))
-      go true = put-give (next x)
+      go : (b : Bool) → gave (cond b (next cores x) Nobody) ≡ put (cond b (given x (next cores x)) (given x Nobody))
+      go true = put-give (next cores x)
       go false = put-give Nobody
 
 -- a step's end, by its table and its grants

@@ -126,8 +126,8 @@ one-none false e = refl
 
 unflagged : (x : LockUnit) → S.oneFlag x ≡ true → Calm x
 unflagged x e zero' =
-    let v = one-none (S.anyValid x) (sym zero' ∙ eqb-true (flags x) (one (S.anyValid x)) e) in
-    next-nobody x (λ k h. no-and (registerIn x k .valid) (not (registerIn x k .flag)) (some-none (λ (j : ℕ). registerIn x j .valid) cores v k h))
+    let v = one-none (S.anyValid x) (sym zero' ∙ eqb-true (flags cores x) (one (S.anyValid x)) e) in
+    next-nobody cores x (λ k h. no-and (registerIn x k .valid) (not (registerIn x k .flag)) (some-none (λ (j : ℕ). registerIn x j .valid) cores v k h))
 
 pub sound-calm : (t : Table) → Sound t → CalmTable t
 sound-calm t s u h = unflagged (unitOf t u) (s .unit u h .oneFlag)

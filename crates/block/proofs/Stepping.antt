@@ -105,7 +105,7 @@ abbrev pub carrying : Table → ℕ → Ticket → Table
 carrying t k n = affected t k (inherit (t .counter) (coreOf t k) n)
 
 abbrev pub inherited : Table → Core → Ticket
-inherited t c = heir (c .own) (next (unitOf t (c .first .0)))
+inherited t c = heir (c .own) (next cores (unitOf t (c .first .0)))
 
 -- the effect of a poll, by the flag and then by the stage
 pub poll-cases :
@@ -155,7 +155,7 @@ set-cases (x ∷ xs) (suc i) a d =
     ⊎-elim (λ e. inl e) (λ e. inr (ap (λ (l : List _). x ∷ l) e)) (set-cases xs i a d)
 
 -- a register changed without touching its flag leaves the unit's flags
-pub flags-kept : (x : LockUnit) (k : ℕ) (r : Register) → registerIn x k .flag ≡ r .flag → flags (registered x k r) ≡ flags x
+pub flags-kept : (x : LockUnit) (k : ℕ) (r : Register) → registerIn x k .flag ≡ r .flag → flags cores (registered x k r) ≡ flags cores x
 flags-kept x k r e = count-cong (λ (j : ℕ). registerIn (record { registers = set (x .registers) k r }) j .flag) (λ (j : ℕ). registerIn x j .flag) cores (λ j h. go j (same-or-not j k))
   where
     go : (j : ℕ) → (j ≡ k) ⊎ (j ≢ k) → getD (set (x .registers) k r) j blank .flag ≡ getD (x .registers) j blank .flag
@@ -192,11 +192,11 @@ module _ (t : Table) (k : ℕ) (h : k < cores) (s : sound t ≡ true) (w : waits
         let there = second-of _ _ _ (S.shows r (c .carried) (holdsBoth (c .state))) _ apart here (parts t s .unit (c .second .0) (b .1) .agrees k h) in
         and-left (r .valid) (eqb (r .ticket .0) (c .carried .0)) (and-left (r .valid && eqb (r .ticket .0) (c .carried .0)) (r .flag || not (holdsBoth (c .state))) there)
 
-    flagged-there : flags (unitOf t (c .second .0)) ≡ 1
+    flagged-there : flags cores (unitOf t (c .second .0)) ≡ 1
     flagged-there =
         let x = unitOf t (c .second .0) in
         let b = second-unit t k h s at two in
-        eqb-true (flags x) (one (S.anyValid x)) (parts t s .unit (c .second .0) (b .1) .oneFlag) ∙
+        eqb-true (flags cores x) (one (S.anyValid x)) (parts t s .unit (c .second .0) (b .1) .oneFlag) ∙
         ap one (at-some (λ (j : ℕ). registerIn x j .valid) cores k h stands-there)
 
     pub carrying-calm : (n : Ticket) → CalmTable (carrying t k n)

@@ -7,7 +7,7 @@ use mathlib.Core.Path.{_≡_}
 use lib.Dec.{eqb}
 use Rattle.ticket.specs.declared.kinds.Ticket.{Ticket}
 use Rattle.ticket.specs.declared.kinds.UnitNo.{UnitNo}
-use Rattle.parts.specs.Parts.{units, blank}
+use Rattle.parts.specs.Parts.{cores, units, blank}
 use Rattle.parts.specs.Answer.{packed}
 use Rattle.parts.specs.declared.kinds.Core.{Core}
 use Rattle.parts.specs.declared.kinds.Register.{Register}
@@ -27,7 +27,7 @@ use Rattle.block.specs.declared.stepped.Stepped.{Stepped}
 
 -- nothing to settle at a unit, and nowhere in a table
 abbrev pub Calm : LockUnit → Type 0
-Calm x = flags x ≡ 0 → next x ≡ Nobody
+Calm x = flags cores x ≡ 0 → next cores x ≡ Nobody
 
 abbrev pub CalmTable : Table → Type 0
 CalmTable t = (u : ℕ) → u < units → Calm (unitOf t u)
@@ -64,4 +64,4 @@ freedTwo t k c u v n = settledTwo (withCore (withRegister (withRegister t (u .0)
 
 -- one unit by itself settles
 abbrev pub settledUnit : LockUnit → Settled
-settledUnit x = cond (eqb (flags x) 0) (given x (next x)) (given x Nobody)
+settledUnit x = cond (eqb (flags cores x) 0) (given x (next cores x)) (given x Nobody)

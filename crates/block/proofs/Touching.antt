@@ -52,29 +52,29 @@ still f x y a (suc n) so stands h = go (eqb a (suc n)) refl (still f x y a n so 
 pub by-settling :
     (t : Table) (u : ℕ) (P : Table → Type 0) →
     (Calm (unitOf t u) → P t) →
-    ((k : ℕ) → k < cores → inLine (registerOf t u k) ≡ true → flags (unitOf t u) ≡ 0 → P (withRegister t u k (flagged (registerOf t u k)))) →
+    ((k : ℕ) → k < cores → inLine (registerOf t u k) ≡ true → flags cores (unitOf t u) ≡ 0 → P (withRegister t u k (flagged (registerOf t u k)))) →
     P (settleAt t u .table)
-by-settling t u P calm given = go (eqb (flags (unitOf t u)) 0) refl (next (unitOf t u)) refl
+by-settling t u P calm given = go (eqb (flags cores (unitOf t u)) 0) refl (next cores (unitOf t u)) refl
   where
     go :
-        (b : Bool) → eqb (flags (unitOf t u)) 0 ≡ b →
-        (w : Best) → next (unitOf t u) ≡ w →
+        (b : Bool) → eqb (flags cores (unitOf t u)) 0 ≡ b →
+        (w : Best) → next cores (unitOf t u) ≡ w →
         P (give t u (cond b w Nobody))
     go true e Nobody q = calm (λ e'. q)
     go true e (Won k n) q =
-        let w = next-won (unitOf t u) k n q in
-        given (k .0) (w .2) (w .0) (eqb-true (flags (unitOf t u)) 0 e)
-    go false e w q = calm (λ e'. absurd (eqb-false (flags (unitOf t u)) 0 e e'))
+        let w = next-won cores (unitOf t u) k n q in
+        given (k .0) (w .2) (w .0) (eqb-true (flags cores (unitOf t u)) 0 e)
+    go false e w q = calm (λ e'. absurd (eqb-false (flags cores (unitOf t u)) 0 e e'))
 
 pub settleAt-unit : (t : Table) (u v : ℕ) → v ≢ u → unitOf (settleAt t u .table) v ≡ unitOf t v
 settleAt-unit t u v d = by-settling t u (λ z. unitOf z v ≡ unitOf t v) (λ calm. refl) (λ k l e none. unit-other t u v _ d)
 
 -- a unit with nothing to settle
 calm-winner : (x : LockUnit) → Calm x → winner x ≡ Nobody
-calm-winner x calm = go (eqb (flags x) 0) refl
+calm-winner x calm = go (eqb (flags cores x) 0) refl
   where
-    go : (b : Bool) → eqb (flags x) 0 ≡ b → cond b (next x) Nobody ≡ Nobody
-    go true e = calm (eqb-true (flags x) 0 e)
+    go : (b : Bool) → eqb (flags cores x) 0 ≡ b → cond b (next cores x) Nobody ≡ Nobody
+    go true e = calm (eqb-true (flags cores x) 0 e)
     go false e = refl
 
 -- one more unit, by who won it

@@ -6,7 +6,7 @@ use mathlib.Core.List.{List, [], _++_}
 use lib.Dec.{eqb}
 use Rattle.ticket.specs.declared.kinds.Grant.{Grant}
 use Rattle.parts.specs.Fold.{upTo}
-use Rattle.parts.specs.Parts.{units, flagged}
+use Rattle.parts.specs.Parts.{cores, units, flagged}
 use Rattle.settling.specs.Line.{flags, next, won}
 use Rattle.parts.specs.declared.kinds.LockUnit.{LockUnit}
 use Rattle.settling.specs.declared.line.Best.{Best}
@@ -16,7 +16,7 @@ use Rattle.block.specs.declared.table.Table.{Table}
 
 -- who wins a unit that settles: without a flag, its next in line
 abbrev pub winner : LockUnit → Best
-winner x = cond (eqb (flags x) 0) (next x) Nobody
+winner x = cond (eqb (flags cores x) 0) (next cores x) Nobody
 
 -- the flag of the core that won is set
 abbrev pub give : Table → ℕ → Best → Table

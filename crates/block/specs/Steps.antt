@@ -5,7 +5,7 @@ use Rattle.ticket.specs.Kinds.{ticket}
 use Rattle.ticket.specs.declared.kinds.Ticket.{Ticket}
 use Rattle.parts.specs.Fold.{upTo}
 use Rattle.parts.specs.State.{twoStage}
-use Rattle.parts.specs.Parts.{units, blank, standing}
+use Rattle.parts.specs.Parts.{cores, units, blank, standing}
 use Rattle.parts.specs.Answer.{whose, packed}
 use Rattle.parts.specs.declared.kinds.Core.{Core}
 use Rattle.parts.specs.declared.answer.Answer.{Answer}
@@ -39,7 +39,7 @@ abbrev pub effectOn : Table → Step → Effect
 effectOn t s =
     let k = whose s .0 in
     let c = coreOf t k in
-    stepEffect s (t .counter) c (registerOf t (awaited c) k .flag) (next (unitOf t (c .first .0)))
+    stepEffect s (t .counter) c (registerOf t (awaited c) k .flag) (next cores (unitOf t (c .first .0)))
 
 -- "gives up every register"
 abbrev pub clear : ℕ → ℕ → Table → Table

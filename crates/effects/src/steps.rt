@@ -20,7 +20,7 @@ use ticket::take;
 ghost use mathlib.Core.Path.{_≡_};
 ghost use Prim.Native.Nat.{_≤_, _<_};
 ghost use Rattle.parts.specs.Parts.{cores, registerIn};
-ghost use Rattle.settling.specs.Line.{nextOf};
+ghost use Rattle.settling.specs.Line.{next};
 ghost use Rattle.effects.specs.Effect.{request, nest, interrupt, comeBack, release, served, heritable, heir, hold, inherit, wait, poll, stepEffect};
 
 // R: takes the counter as ticket, enters the unit, waits.
@@ -191,7 +191,7 @@ fn wait(counter: Ticket, c: Core) -> Effect
 // P: core k, which is c, waits at the unit y; at the second stage it holds x.
 fn poll(n: u16, counter: Ticket, k: CoreNo, c: Core, x: LockUnit, y: LockUnit) -> Effect
     requires { ⌜ (n ≤ cores) × (k .0 < cores) ⌝ }
-    ensures { λ r. ⌜ r ≡ poll counter c (registerIn y (k .0) .flag) (nextOf n x) ⌝ }
+    ensures { λ r. ⌜ r ≡ poll counter c (registerIn y (k .0) .flag) (next n x) ⌝ }
 {
     let s = c.state;
     let own = c.own;
@@ -217,7 +217,7 @@ pub fn step_effect(
     y: LockUnit,
 ) -> Effect
     requires { ⌜ (n ≤ cores) × (k .0 < cores) ⌝ }
-    ensures { λ r. ⌜ r ≡ stepEffect s counter c (registerIn y (k .0) .flag) (nextOf n x) ⌝ }
+    ensures { λ r. ⌜ r ≡ stepEffect s counter c (registerIn y (k .0) .flag) (next n x) ⌝ }
 {
     match s {
         Step::R(_, u) => request(u, counter),

@@ -185,7 +185,7 @@ module _ (e : Place) (c k u : ℕ) (p : Place) (w : Stands e c k u p) (z : Step)
             let j = i .0 in
             let h = place e c k u p w z on in
             let d = granted-due e c k u p w z on a j (i .1) in
-            let won = next-won (unitOf m u) (coreNo j) (d .ticket) (d .oldest) in
+            let won = next-won cores (unitOf m u) (coreNo j) (d .ticket) (d .oldest) in
             let less = not-overtaken e c k u p w z on j (at-gives u j (grants p z) (i .1)) in
             let set : registerOf (q .table) u j .flag ≡ true = rw (stepped t z a) (settled-due m (a .shaped) u h (coreNo j) d) in
             let live = due-live e c k u p w z on a j d in

@@ -91,7 +91,7 @@ module _ (e : Place) (c k u : ℕ) (p : Place) (w : Stands e c k u p) (z : Step)
 
   pub due-live : Accepted t z → (j : ℕ) → Due (unitOf m u) (coreNo j) → Live (q .table) j
   due-live a j d =
-      let won = next-won (unitOf m u) (coreNo j) (d .ticket) (d .oldest) in
+      let won = next-won cores (unitOf m u) (coreNo j) (d .ticket) (d .oldest) in
       rw (stepped-core t z a j) (ap isIdle (lined a j (won .2) (won .0) .state))
 
   winner-earlier :

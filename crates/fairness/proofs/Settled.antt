@@ -12,7 +12,7 @@ use lib.ListN.{set}
 use lib.Seq.{getD-set-same, getD-set-other}
 use borrow.Author.Tests.{eqb-true, eq-eqb}
 use Rattle.ticket.specs.declared.kinds.CoreNo.{CoreNo}
-use Rattle.parts.specs.Parts.{units, coreNo, blank, flagged, registerIn}
+use Rattle.parts.specs.Parts.{cores, units, coreNo, blank, flagged, registerIn}
 use Rattle.block.specs.Table.{unitOf, registerOf, Shaped}
 use Rattle.settling.specs.Line.{flags, next}
 use Rattle.block.specs.Settle.{winner, give, settleNext, settle}
@@ -36,7 +36,7 @@ given x (Won k n) = record { registers = set (x .registers) (k .0) (flagged (reg
 
 module _ (t : Table) (u : ℕ) (s : Shaped t) (h : u < units) where
   settled-here : unitOf (settleAt t u .table) u ≡ given (unitOf t u) (winner (unitOf t u))
-  settled-here = go (eqb (flags (unitOf t u)) 0) (next (unitOf t u))
+  settled-here = go (eqb (flags cores (unitOf t u)) 0) (next cores (unitOf t u))
     where
       go :
           (b : Bool) (w : Best) →
@@ -86,14 +86,14 @@ module _ (t : Table) (s : Shaped t) where
         registerOf (settle t .table) u j .flag ≡ true →
         (registerOf t u j .flag ≡ true) ⊎ Due (unitOf t u) (coreNo j)
     settled-new j e =
-        go (eqb (flags x) 0) refl (next x) refl (subst (λ (y : LockUnit). registerIn y j .flag ≡ true) (turned .behind u h) e)
+        go (eqb (flags cores x) 0) refl (next cores x) refl (subst (λ (y : LockUnit). registerIn y j .flag ≡ true) (turned .behind u h) e)
       where
         x : LockUnit
         x = unitOf t u
 
         go :
-            (b : Bool) → eqb (flags x) 0 ≡ b →
-            (w : Best) → next x ≡ w →
+            (b : Bool) → eqb (flags cores x) 0 ≡ b →
+            (w : Best) → next cores x ≡ w →
             registerIn (given x (cond b w Nobody)) j .flag ≡ true →
             (registerIn x j .flag ≡ true) ⊎ Due x (coreNo j)
         go true p Nobody q f = inl f
@@ -101,7 +101,7 @@ module _ (t : Table) (s : Shaped t) where
           where
             pick : (j ≡ k .0) ⊎ (j ≢ k .0) → (registerIn x j .flag ≡ true) ⊎ Due x (coreNo j)
             pick (inl e) =
-                inr (record { free = eqb-true (flags x) 0 p; ticket = n; oldest = q ∙ ap (λ (i : ℕ). Won (coreNo i) n) (sym e) })
+                inr (record { free = eqb-true (flags cores x) 0 p; ticket = n; oldest = q ∙ ap (λ (i : ℕ). Won (coreNo i) n) (sym e) })
             pick (inr d) =
                 let same = getD-set-other (x .registers) (k .0) j (flagged (registerIn x (k .0))) blank d in
                 inl (ap (λ (r : Register). r .flag) (sym same) ∙ f)
@@ -110,8 +110,8 @@ module _ (t : Table) (s : Shaped t) where
     pub settled-due : (k : CoreNo) → Due (unitOf t u) k → registerOf (settle t .table) u (k .0) .flag ≡ true
     settled-due k d =
         let x = unitOf t u in
-        let w : winner x ≡ Won k (d .ticket) = simp (eq-eqb (flags x) 0 (d .free), d .oldest) in
-        let small = next-won x k (d .ticket) (d .oldest) .2 in
+        let w : winner x ≡ Won k (d .ticket) = simp (eq-eqb (flags cores x) 0 (d .free), d .oldest) in
+        let small = next-won cores x k (d .ticket) (d .oldest) .2 in
         ap (λ (y : LockUnit). registerIn y (k .0) .flag) (turned .behind u h ∙ ap (given x) w) ∙
         ap (λ (r : Register). r .flag)
         (getD-set-same (x .registers) (k .0) (flagged (registerIn x (k .0))) blank (rw (s .registers-long u h) small))

@@ -54,9 +54,9 @@ flag-there t s u k h l v = go (some flag cores) refl
     go : (b : Bool) → some flag cores ≡ b → (j : ℕ) × (j < cores) × (registerOf t u j .flag ≡ true)
     go true e = some-at flag cores e
     go false e =
-        let none : flags (unitOf t u) ≡ 0 = none-count flag cores (some-none flag cores e) in
+        let none : flags cores (unitOf t u) ≡ 0 = none-count flag cores (some-none flag cores e) in
         let any : one (S.anyValid (unitOf t u)) ≡ 1 = ap one (at-some (λ (j : ℕ). registerOf t u j .valid) cores k l v) in
-        let same = eqb-true (flags (unitOf t u)) (one (S.anyValid (unitOf t u))) (s .unit u h .oneFlag) in
+        let same = eqb-true (flags cores (unitOf t u)) (one (S.anyValid (unitOf t u))) (s .unit u h .oneFlag) in
         absurd (omega arith)
 
 module _ (t : Table) (g : Good t) where

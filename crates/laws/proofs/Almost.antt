@@ -14,4 +14,4 @@ pub record Almost (t : Table) : Type 0 where
   pub counts : inRange (t .counts) ≡ true
   pub core : (k : ℕ) → k < cores → CoreSound t k
   pub agrees : (u : ℕ) → u < units → (k : ℕ) → k < cores → S.agrees (coreOf t k) u (registerOf t u k) ≡ true
-  pub few : (u : ℕ) → u < units → flags (unitOf t u) ≤ 1
+  pub few : (u : ℕ) → u < units → flags cores (unitOf t u) ≤ 1

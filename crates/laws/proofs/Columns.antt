@@ -3,12 +3,16 @@
 use Prim.Native.Nat.{ℕ, _+_, _<_, _≤_}
 use mathlib.Core.Bool.{Bool, true, false, cond, _&&_, _||_, not}
 use mathlib.Core.Logic.{_⊎_, inl, inr, _≢_}
-use mathlib.Core.Path.{_≡_, refl, sym, ap}
+use mathlib.Core.Path.{_≡_, refl, sym, _∙_, ap}
 use native.Mathlib.Omega.{arith}
 use lib.Dec.{eqb}
 use borrow.Author.Tests.{eqb-true, eq-eqb, ne-eqb, lt-ltb}
+use Rattle.ticket.specs.Claims.{turned}
+use Rattle.ticket.specs.Order.{behind, compare}
 use Rattle.ticket.specs.declared.kinds.Ticket.{Ticket}
 use Rattle.ticket.specs.declared.kinds.UnitNo.{UnitNo}
+use Rattle.ticket.specs.declared.order.Comparison.the-variants.{Same}
+use Rattle.ticket.proofs.Laws.{compared, told, swapped}
 use Rattle.parts.specs.Fold.{some, one}
 use Rattle.parts.specs.State.{isIdle, twoStage, unserved}
 use Rattle.parts.specs.Parts.{cores, units, core}
@@ -32,16 +36,19 @@ use Rattle.parts.proofs.Ranging.{cores-few}
 use Rattle.laws.proofs.Almost.{Almost}
 use Rattle.laws.proofs.Moving.{Moved, affected-moved, shown, affected-shown, shown-flag}
 
--- two cores that are live have different own tickets
+-- two cores that are live have own tickets that do not compare the same
 abbrev pub Apart : Core → Core → Type 0
-Apart c d = isIdle (c .state) ≡ false → isIdle (d .state) ≡ false → c .own .0 ≢ d .own .0
+Apart c d = isIdle (c .state) ≡ false → isIdle (d .state) ≡ false → compare (c .own .0) (d .own .0) ≢ Same
 
 pub apart-sym : (c d : Core) → Apart c d → Apart d c
-apart-sym c d a p q e = a q p (sym e)
+apart-sym c d a p q e = a q p (swapped (d .own .0) (c .own .0) ∙ ap turned e)
 
 module _ (t : Table) (i j : ℕ) where
   pub differ-apart : i ≢ j → S.differ t i j ≡ true → Apart (coreOf t i) (coreOf t j)
-  differ-apart d h p q e = clash h (simp (ne-eqb i j d, p, q, eq-eqb (coreOf t i .own .0) (coreOf t j .own .0) e))
+  differ-apart d h p q e =
+      let a = coreOf t i .own .0 in
+      let b = coreOf t j .own .0 in
+      clash h (simp (ne-eqb i j d, p, q, eq-eqb (behind a b) 0 (told a b Same e)))
 
   pub apart-differ : (i ≢ j → Apart (coreOf t i) (coreOf t j)) → S.differ t i j ≡ true
   apart-differ a = go (same-or-not i j)
@@ -56,7 +63,7 @@ module _ (t : Table) (i j : ℕ) where
       go (inr d) =
           simp (ne-eqb i j d)
           (last (isIdle (coreOf t i .state)) (isIdle (coreOf t j .state)) _
-          (λ p q. ne-eqb (coreOf t i .own .0) (coreOf t j .own .0) (a d p q)))
+          (λ p q. ne-eqb (behind (coreOf t i .own .0) (coreOf t j .own .0)) 0 (λ z. a d p q (compared (coreOf t i .own .0) (coreOf t j .own .0) Same z))))
 
 -- core d lends its ticket to c
 pub record Lends (c d : Core) : Type 0 where
@@ -120,10 +127,10 @@ lenders-others t t' k c others served = carries-kept t t' c (λ two j l. lender 
     lender j l (inr d) = rw (others j d) l
 
 -- at most one flag in a unit of a sound table
-pub sound-few : (t : Table) → Sound t → (u : ℕ) → u < units → flags (unitOf t u) ≤ 1
-sound-few t s u h = go (S.anyValid (unitOf t u)) (eqb-true (flags (unitOf t u)) _ (s .unit u h .oneFlag))
+pub sound-few : (t : Table) → Sound t → (u : ℕ) → u < units → flags cores (unitOf t u) ≤ 1
+sound-few t s u h = go (S.anyValid (unitOf t u)) (eqb-true (flags cores (unitOf t u)) _ (s .unit u h .oneFlag))
   where
-    go : (b : Bool) → flags (unitOf t u) ≡ one b → flags (unitOf t u) ≤ 1
+    go : (b : Bool) → flags cores (unitOf t u) ≡ one b → flags cores (unitOf t u) ≤ 1
     go true e = omega arith
     go false e = omega arith
 
@@ -154,7 +161,7 @@ module _ (t : Table) (shaped : Shaped t) (s : Sound t) (k : ℕ) (within : k < t
     m = affected-moved t shaped k small e
 
     -- k's flags go out or stay, so no unit has more of them
-    column-few : (u : ℕ) → u < units → flags (unitOf t' u) ≤ 1
+    column-few : (u : ℕ) → u < units → flags cores (unitOf t' u) ≤ 1
     column-few u h =
         go (registerOf t u k .flag) (registerOf t' u k .flag) (rw (affected-shown t shaped k small u h e) (shown-flag t k u (e .does)))
         (count-change (λ (j : ℕ). registerOf t' u j .flag) (λ (j : ℕ). registerOf t u j .flag) cores k small
@@ -164,9 +171,9 @@ module _ (t : Table) (shaped : Shaped t) (s : Sound t) (k : ℕ) (within : k < t
         go :
             (b b' : Bool) →
             (b' ≡ false) ⊎ (b' ≡ b) →
-            flags (unitOf t' u) + one b ≡ flags (unitOf t u) + one b' →
-            flags (unitOf t u) ≤ 1 →
-            flags (unitOf t' u) ≤ 1
+            flags cores (unitOf t' u) + one b ≡ flags cores (unitOf t u) + one b' →
+            flags cores (unitOf t u) ≤ 1 →
+            flags cores (unitOf t' u) ≤ 1
         go b b' (inl e) eq le = let z : one b' ≡ 0 = ap one e in omega arith
         go b b' (inr e) eq le = let z : one b' ≡ one b = ap one e in omega arith
 

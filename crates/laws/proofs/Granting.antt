@@ -47,7 +47,8 @@ use Rattle.parts.proofs.Bools.{clash}
 use Rattle.parts.proofs.Folds.{at-some, none-some, count-none}
 use Rattle.laws.proofs.Kept.{Two as Both, names-two, two-stage, moves-almost}
 use Rattle.block.proofs.Parts.{parts}
-use Rattle.settling.proofs.Picking.{next-won, nobody-next}
+use Rattle.settling.proofs.Picking.{next-won}
+use Rattle.laws.proofs.Oldest.{oldest-nobody}
 use Rattle.laws.proofs.Settling.{settle-same}
 use Rattle.block.proofs.Standing.{sound-calm}
 use Rattle.block.proofs.Stepping.{calm-elsewhere, first-unit, second-unit, clears-one, clears-two, one-calm, two-calm, inherited, poll-moves, carrying-calm, awaited-second}
@@ -58,18 +59,18 @@ use Rattle.block.proofs.Touching.{settle-none, settle-one, settle-two, settleAt
 
 module _ (x : LockUnit) (n : ℕ) (g : Grant) where
   won-due : List·Memᴰ g (won n (winner x)) → (g .unit .0 ≡ n) × Due x (g .core)
-  won-due = go (eqb (flags x) 0) refl (next x) refl
+  won-due = go (eqb (flags cores x) 0) refl (next cores x) refl
     where
       go :
-          (b : Bool) → eqb (flags x) 0 ≡ b →
-          (w : Best) → next x ≡ w →
+          (b : Bool) → eqb (flags cores x) 0 ≡ b →
+          (w : Best) → next cores x ≡ w →
           List·Memᴰ g (won n (cond b w Nobody)) → (g .unit .0 ≡ n) × Due x (g .core)
       go true e Nobody q m = absurd (List·Memᴰ·not-nil m)
       go true e (Won k t) q m =
           let same = List·Memᴰ·eq-of-singleton m in (
             ap (λ (h : Grant). h .unit .0) same,
             record {
-              free = eqb-true (flags x) 0 e;
+              free = eqb-true (flags cores x) 0 e;
               ticket = t;
               oldest = q ∙ ap (λ (h : Grant). Won (h .core) t) (sym same);
             },
@@ -78,7 +79,7 @@ module _ (x : LockUnit) (n : ℕ) (g : Grant) where
 
   due-won : g .unit .0 ≡ n → Due x (g .core) → List·Memᴰ g (won n (winner x))
   due-won e d =
-      let w : winner x ≡ Won (g .core) (d .ticket) = simp (eq-eqb (flags x) 0 (d .free), d .oldest) in
+      let w : winner x ≡ Won (g .core) (d .ticket) = simp (eq-eqb (flags cores x) 0 (d .free), d .oldest) in
       subst (λ (b : Best). List·Memᴰ g (won n b)) (sym w) (List·Memᴰ·head (ap (λ (u : ℕ). grant (unitNo u) (g .core)) e))
 
 -- Settling all units
@@ -175,7 +176,7 @@ module _ (t : Table) where
   settled-rising = settled-to .rising
 
 -- a unit without a flag has its valid registers in line
-free-line : (x : LockUnit) → flags x ≡ 0 → anyInLine x ≡ S.anyValid x
+free-line : (x : LockUnit) → flags cores x ≡ 0 → anyInLine x ≡ S.anyValid x
 free-line x none =
     upTo-cong (λ (k : ℕ) (b : Bool). b || inLine (registerIn x k)) (λ (k : ℕ) (b : Bool). b || registerIn x k .valid) cores false
     (λ k h b. ap (λ (v : Bool). b || v) (clear (registerIn x k) (count-none (λ (j : ℕ). registerIn x j .flag) cores none k h)))
@@ -190,34 +191,34 @@ free-line x none =
 -- somebody is due exactly where a unit has no flag and some register in line
 due-line : (x : LockUnit) (k : CoreNo) → Due x k → anyInLine x ≡ true
 due-line x k d =
-    let w = next-won x k (d .ticket) (d .oldest) in
+    let w = next-won cores x k (d .ticket) (d .oldest) in
     at-some (λ (j : ℕ). inLine (registerIn x j)) cores (k .0) (w .2) (w .0)
 
-line-due : (x : LockUnit) → flags x ≡ 0 → anyInLine x ≡ true → (k : CoreNo) × Due x k
-line-due x none line = go (next x) refl
+line-due : (t : Table) → Almost t → (u : ℕ) → u < units → let x = unitOf t u in flags cores x ≡ 0 → anyInLine x ≡ true → (k : CoreNo) × Due x k
+line-due t a u h none line = go (next cores (unitOf t u)) refl
   where
-    go : (b : Best) → next x ≡ b → (k : CoreNo) × Due x k
-    go Nobody q = absurd (clash line (none-some (λ (j : ℕ). inLine (registerIn x j)) cores (nobody-next x q)))
+    go : (b : Best) → next cores (unitOf t u) ≡ b → (k : CoreNo) × Due (unitOf t u) k
+    go Nobody q = absurd (clash line (none-some (λ (j : ℕ). inLine (registerIn (unitOf t u) j)) cores (oldest-nobody t a u h .0 q)))
     go (Won k n) q = (k, record { free = none; ticket = n; oldest = q })
 
--- the units that are granted: by registers in line, and by valid registers
-module _ (t : Table) (u : ℕ) (h : u < units) where
+-- the units that are granted, of a table that is sound but perhaps for flags to be set: by registers in line, and by valid registers
+module _ (t : Table) (a : Almost t) (u : ℕ) (h : u < units) where
   abbrev Given : Type 0
   Given = (k : CoreNo) × List·Memᴰ (grant (unitNo u) k) (settle t .grants)
 
   pub settled-in-line :
-      (Given → (flags (unitOf t u) ≡ 0) × (anyInLine (unitOf t u) ≡ true)) ×
-      ((flags (unitOf t u) ≡ 0) × (anyInLine (unitOf t u) ≡ true) → Given)
+      (Given → (flags cores (unitOf t u) ≡ 0) × (anyInLine (unitOf t u) ≡ true)) ×
+      ((flags cores (unitOf t u) ≡ 0) × (anyInLine (unitOf t u) ≡ true) → Given)
   settled-in-line = (
     λ g. let d = settled-exactly t (grant (unitNo u) (g .0)) .0 (g .1) .due in (d .free, due-line (unitOf t u) (g .0) d),
     λ e.
-        let d = line-due (unitOf t u) (e .0) (e .1) in
+        let d = line-due t a u h (e .0) (e .1) in
         (d .0, settled-exactly t (grant (unitNo u) (d .0)) .1 (record { place = h; due = d .1 })),
   )
 
   pub settled-valid :
-      (Given → (flags (unitOf t u) ≡ 0) × (S.anyValid (unitOf t u) ≡ true)) ×
-      ((flags (unitOf t u) ≡ 0) × (S.anyValid (unitOf t u) ≡ true) → Given)
+      (Given → (flags cores (unitOf t u) ≡ 0) × (S.anyValid (unitOf t u) ≡ true)) ×
+      ((flags cores (unitOf t u) ≡ 0) × (S.anyValid (unitOf t u) ≡ true) → Given)
   settled-valid = (
     λ g. let e = settled-in-line .0 g in (e .0, sym (free-line (unitOf t u) (e .0)) ∙ e .1),
     λ e. settled-in-line .1 (e .0, free-line (unitOf t u) (e .0) ∙ e .1),
@@ -243,7 +244,7 @@ pub settled-waiting :
     (waits (coreOf (settle t .table) (g .core .0) .state) ≡ true) × (awaited (coreOf (settle t .table) (g .core .0)) ≡ g .unit .0)
 settled-waiting t a g m =
     let d = settled-exactly t g .0 m in
-    let w = next-won (unitOf t (g .unit .0)) (g .core) (d .due .ticket) (d .due .oldest) in
+    let w = next-won cores (unitOf t (g .unit .0)) (g .core) (d .due .ticket) (d .due .oldest) in
     subst (λ (l : List Core). (waits (getD l (g .core .0) idle .state) ≡ true) × (awaited (getD l (g .core .0) idle) ≡ g .unit .0))
     (sym (settle-same t .0))
     (in-line-awaits t (g .unit .0) (g .core .0) a (d .place) (w .2) (w .0))

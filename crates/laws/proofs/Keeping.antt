@@ -83,7 +83,7 @@ idle-core t all k h =
 
 blank-unit : (x : LockUnit) → ((k : ℕ) → k < cores → registerIn x k ≡ blank) → S.oneFlag x ≡ true
 blank-unit x all =
-    eq-eqb (flags x) (one (S.anyValid x))
+    eq-eqb (flags cores x) (one (S.anyValid x))
     (none-count (λ (k : ℕ). registerIn x k .flag) cores (λ k h. ap (λ (r : Register). r .flag) (all k h)) ∙
     ap one (sym (none-some (λ (k : ℕ). registerIn x k .valid) cores (λ k h. ap (λ (r : Register). r .valid) (all k h)))))
 

@@ -37,7 +37,7 @@ use Rattle.block.specs.Sound as S
 use Rattle.block.specs.Parts.{Sound}
 use Rattle.block.specs.Steps.{verdict, effectOn, affected, moves}
 use Rattle.block.specs.declared.table.Table.{Table}
-use Rattle.ticket.proofs.Laws.{seen, never-opposite}
+use Rattle.ticket.proofs.Laws.{seen, told, never-opposite}
 use Rattle.ticket.proofs.Circle.{behind-leads, behind-only, behind-self}
 use Rattle.parts.proofs.Along.{same-or-not}
 use Rattle.parts.proofs.Bools.{and-left, and-right, and-both, or-left, or-right, or-cases, clash}
@@ -275,7 +275,7 @@ module _ (t : Table) (s : Sound t) (k : ℕ) (small : k < cores) (e : coreOf t k
       (ap readsOlder o))
 
   inherited-ticket : S.carries t (stays (coreOf t k) (inherited t (coreOf t k)) (coreOf t k .second) WaitingSecond) ≡ true
-  inherited-ticket = go (next (unitOf t (coreOf t k .first .0))) refl
+  inherited-ticket = go (next cores (unitOf t (coreOf t k .first .0))) refl
     where
       pick :
           (x : Comparison) (j : ℕ) (m : Ticket) →
@@ -292,12 +292,12 @@ module _ (t : Table) (s : Sound t) (k : ℕ) (small : k < cores) (e : coreOf t k
 
       go :
           (b : Best) →
-          next (unitOf t (coreOf t k .first .0)) ≡ b →
+          next cores (unitOf t (coreOf t k .first .0)) ≡ b →
           S.carries t (stays (coreOf t k) (heir (coreOf t k .own) b) (coreOf t k .second) WaitingSecond) ≡ true
       go Nobody q = own-ticket
       go (Won j m) q =
           let c = coreOf t k in
-          let w = next-won (unitOf t (c .first .0)) j m q in
+          let w = next-won cores (unitOf t (c .first .0)) j m q in
           let place = unit-small t s (c .first .0) (first-there t s k small (ap isIdle e)) in
           let line =
           in-line-waits t (coreOf t (j .0)) (c .first .0) (registerOf t (c .first .0) (j .0)) (second-two .first)
@@ -329,7 +329,7 @@ module _ (t : Table) (shaped : Shaped t) (s : Sound t) (k : CoreNo) where
             (λ live. next-window (n .0) (coreOf t j .own .0) (live-close t s (r .close) j h live));
         apart = λ j h d p live same.
             let far = live-window t s j h live .least in
-            let o = ap (behind (n .0)) same in
+            let none = told (n .0) (coreOf t j .own .0) Same same in
             omega arith;
         carries = simp (eq-eqb (n .0) (n .0) refl);
         lends = λ j h d two l. absurd (clash (l .unserved) (ap unserved (r .state)));

@@ -4,14 +4,14 @@
 use Prim.Native.Nat.{ℕ, _<_}
 use mathlib.Core.Bool.{Bool, true, false}
 use mathlib.Core.Logic.{_⊎_, inl, inr, ⊎-elim, _≢_}
-use mathlib.Core.Path.{_≡_, refl, sym, _∙_}
+use mathlib.Core.Path.{_≡_, refl, sym, _∙_, ap₂}
 use native.Mathlib.Omega.{arith}
 use lib.Dec.{eqb}
 use borrow.Author.Tests.{eqb-true}
 use Rattle.ticket.specs.Order.{circle, compare, Window}
 use Rattle.ticket.specs.declared.kinds.CoreNo.{CoreNo}
 use Rattle.ticket.specs.declared.kinds.Ticket.{Ticket}
-use Rattle.ticket.specs.declared.order.Comparison.the-variants.{Older}
+use Rattle.ticket.specs.declared.order.Comparison.the-variants.{Older, Same}
 use Rattle.parts.specs.Fold.{some}
 use Rattle.parts.specs.State.{isIdle, stands, twoStage, unserved}
 use Rattle.parts.specs.Parts.{cores, units}
@@ -136,16 +136,16 @@ module _ (t : Table) (a : Almost t) (u : ℕ) (place : u < units) where
       (rw same at (first-flag t a i l (b .two)))
       (first-flag t a k h (d .two))
 
-  -- two cores show different tickets
-  pub shown-differ :
+  -- the tickets that two cores show do not compare the same
+  pub shown-apart :
       (i k : ℕ) →
       i < cores →
       k < cores →
       i ≢ k →
       registerOf t u i .valid ≡ true →
       registerOf t u k .valid ≡ true →
-      registerOf t u i .ticket .0 ≢ registerOf t u k .ticket .0
-  shown-differ i k l h d v w e = go (owner i l v) (owner k h w)
+      compare (registerOf t u i .ticket .0) (registerOf t u k .ticket .0) ≢ Same
+  shown-apart i k l h d v w e = go (owner i l v) (owner k h w)
     where
       met : (o : Owner t u i) (p : Owner t u k) → (o .core ≡ p .core) → (o .core ≡ i) ⊎ Borrows t u i (o .core) → (p .core ≡ k) ⊎ Borrows t u k (p .core) → ⊥
       met o p q (inl x) (inl y) = d (sym x ∙ q ∙ y)
@@ -159,27 +159,27 @@ module _ (t : Table) (a : Almost t) (u : ℕ) (place : u < units) where
           apart : o .core ≢ p .core → ⊥
           apart q =
               differ-apart t (o .core) (p .core) q (a .core (o .core) (o .small) .differ (p .core) (p .small)) (o .live) (p .live)
-              (o .own ∙ e ∙ sym (p .own))
+              (ap₂ compare (o .own) (p .own) ∙ e)
 
   -- every ticket shown lies in the window behind the counter
-  pub shown-recent :
-      Fitting t →
-      (k : ℕ) →
-      k < cores →
-      registerOf t u k .valid ≡ true →
-      (registerOf t u k .ticket .0 < circle) × Window (t .counter .0) (registerOf t u k .ticket .0)
-  shown-recent f k h v =
-      let o = owner k h v in (
-        rw (o .own) at (f .own (o .core) (o .small)),
-        rw (o .own) at (recent-window t (coreOf t (o .core)) (o .live) (a .core (o .core) (o .small) .recent)),
-      )
+  pub shown-recent : (k : ℕ) → k < cores → registerOf t u k .valid ≡ true → Window (t .counter .0) (registerOf t u k .ticket .0)
+  shown-recent k h v =
+      let o = owner k h v in rw (o .own) at (recent-window t (coreOf t (o .core)) (o .live) (a .core (o .core) (o .small) .recent))
 
--- nobody is next exactly if nobody is in line: this holds of every table
+-- nobody is next exactly if nobody is in line
 pub oldest-nobody :
-    (t : Table) (u : ℕ) →
-    (next (unitOf t u) ≡ Nobody → (k : ℕ) → k < cores → inLine (registerOf t u k) ≡ false) ×
-    (((k : ℕ) → k < cores → inLine (registerOf t u k) ≡ false) → next (unitOf t u) ≡ Nobody)
-oldest-nobody t u = (nobody-next (unitOf t u), next-nobody (unitOf t u))
+    (t : Table) →
+    Almost t →
+    (u : ℕ) →
+    u < units →
+    (next cores (unitOf t u) ≡ Nobody → (k : ℕ) → k < cores → inLine (registerOf t u k) ≡ false) ×
+    (((k : ℕ) → k < cores → inLine (registerOf t u k) ≡ false) → next cores (unitOf t u) ≡ Nobody)
+oldest-nobody t a u place =
+    let valid : (j : ℕ) → inLine (registerOf t u j) ≡ true → registerOf t u j .valid ≡ true = λ j l. and-left (registerOf t u j .valid) _ l in (
+      nobody-next cores (unitOf t u) (t .counter .0) (λ j h l. shown-recent t a u place j h (valid j l))
+          (λ i j h h' d l l'. shown-apart t a u place i j h h' d (valid i l) (valid j l')),
+      next-nobody cores (unitOf t u),
+    )
 
 -- core k is in line at u with the ticket n, which is older than all others in line
 abbrev pub Oldest : Table → ℕ → CoreNo → Ticket → Type 0
@@ -197,17 +197,10 @@ pub oldest-won :
     (u : ℕ) →
     u < units →
     (k : CoreNo) (n : Ticket) →
-    next (unitOf t u) ≡ Won k n →
+    next cores (unitOf t u) ≡ Won k n →
     Oldest t u k n
 oldest-won t a f u place k n e =
-    let w = next-won (unitOf t u) k n e in
-    let valid : (j : ℕ) → inLine (registerOf t u j) ≡ true → registerOf t u j .valid ≡ true = λ j l. and-left (registerOf t u j .valid) _ l in (
-      w .2,
-      w .0,
-      w .1,
-      next-oldest (unitOf t u) (t .counter .0) (λ j h l. shown-recent t a u place f j h (valid j l))
-          (λ i j h h' d l l'. shown-differ t a u place i j h h' d (valid i l) (valid j l')) k n e,
-    )
+    let w = next-won cores (unitOf t u) k n e in (w .2, w .0, w .1, next-oldest cores (unitOf t u) k n e)
 
 pub oldest-won-sound :
     (t : Table) →
@@ -216,6 +209,6 @@ pub oldest-won-sound :
     (u : ℕ) →
     u < units →
     (k : CoreNo) (n : Ticket) →
-    next (unitOf t u) ≡ Won k n →
+    next cores (unitOf t u) ≡ Won k n →
     Oldest t u k n
 oldest-won-sound t s = oldest-won t (sound-almost t s)

@@ -12,23 +12,22 @@ use Rattle.parts.specs.Parts.{cores}
 use Rattle.block.specs.Table.{coreOf, registerOf}
 use Rattle.block.specs.Sound as S
 use Rattle.block.specs.declared.table.Table.{Table}
-use Rattle.ticket.proofs.Laws.{total, never-opposite}
+use Rattle.ticket.proofs.Laws.{never-opposite}
+use Rattle.settling.proofs.Picking.{ordered}
 use Rattle.parts.proofs.Bools.{and-both, clash}
 use Rattle.parts.proofs.Folds.{some-at}
 use Rattle.block.proofs.Parts.{parts}
 use Rattle.laws.specs.Claims.{PickingOrdered, InheritingOrdered}
 use Rattle.laws.proofs.Columns.{lent, sound-almost, differ-apart}
 use Rattle.laws.proofs.Kept.{names-two, first-place, recent-window, live-window, two-stage, in-line-waits, unserved-live}
-use Rattle.laws.proofs.Oldest.{shown-differ, shown-recent}
+use Rattle.laws.proofs.Oldest.{shown-apart, shown-recent}
 
 pub picking-ordered : PickingOrdered
 picking-ordered t u i k ok fits place h l d v w =
     let a = sound-almost t (parts t ok) in
-    let r = registerOf t u i .ticket .0 in
-    let q = registerOf t u k .ticket .0 in
-    let x = shown-recent t a u place (record { own = fits }) i h v in
-    let y = shown-recent t a u place (record { own = fits }) k l w in
-    total (t .counter .0) r q (x .1) (y .1) (x .0) (y .0) (shown-differ t a u place i k h l d v w)
+    ordered (t .counter .0) (registerOf t u i .ticket .0) (registerOf t u k .ticket .0) (shown-recent t a u place i h v)
+    (shown-recent t a u place k l w)
+    (shown-apart t a u place i k h l d v w)
 
 -- a register in line at a first-class unit shows the own ticket of a core that waits, which is another core than the one that holds the unit
 pub inheriting-ordered : InheritingOrdered
@@ -44,7 +43,7 @@ inheriting-ordered t i k ok fits h l two v clear =
     let waits = ap isIdle (w .state) in
     let other : i ≢ k = λ q. clash two (rw q at (ap twoStage (w .state))) in
     rw (w .own) at
-    (total (t .counter .0) (d .own .0) (c .own .0) (live-window t s i h waits) (live-window t s k l live) (fits i h) (fits k l)
+    (ordered (t .counter .0) (d .own .0) (c .own .0) (live-window t s i h waits) (live-window t s k l live)
     (differ-apart t i k other (s .core i h .differ k l) waits live))
 
 -- Of any table: where all live tickets lie in the window, no lent ticket is opposite to the own one. So it makes no table sound or unsound

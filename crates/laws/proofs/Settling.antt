@@ -29,7 +29,7 @@ use Rattle.block.proofs.Access.{unit-other, register-same, register-core, regis
 use Rattle.parts.proofs.Along.{same-or-not, to-last, along}
 use Rattle.laws.proofs.Almost.{Almost}
 use Rattle.laws.proofs.Agreeing.{flag-at, in-line}
-use Rattle.settling.proofs.Picking.{nobody-next}
+use Rattle.laws.proofs.Oldest.{oldest-nobody}
 use Rattle.block.proofs.Standing.{blank-is}
 use Rattle.block.proofs.Touched.{settleAt}
 use Rattle.block.proofs.Touching.{by-settling, settleAt-unit}
@@ -64,8 +64,8 @@ module _ (c : Core) (u : ℕ) (r : Register) where
 
 -- One unit
 
-one-flag : (x : LockUnit) (b : Bool) → S.anyValid x ≡ b → flags x ≡ one b → S.oneFlag x ≡ true
-one-flag x b v f = eq-eqb (flags x) (one (S.anyValid x)) (f ∙ ap one (sym v))
+one-flag : (x : LockUnit) (b : Bool) → S.anyValid x ≡ b → flags cores x ≡ one b → S.oneFlag x ≡ true
+one-flag x b v f = eq-eqb (flags cores x) (one (S.anyValid x)) (f ∙ ap one (sym v))
 
 -- what a register keeps
 pub record Kept (r z : Register) : Type 0 where
@@ -77,7 +77,7 @@ kept : (r : Register) → Kept r r
 kept r = record { ticket = refl; valid = refl; flag = λ e. e }
 
 -- the flag of core k in line at unit u is set, where none was
-module _ (t : Table) (u k : ℕ) (s : Shaped t) (h : u < units) (l : k < cores) (e : inLine (registerOf t u k) ≡ true) (none : flags (unitOf t u) ≡ 0) where
+module _ (t : Table) (u k : ℕ) (s : Shaped t) (h : u < units) (l : k < cores) (e : inLine (registerOf t u k) ≡ true) (none : flags cores (unitOf t u) ≡ 0) where
   abbrev r : Register
   r = registerOf t u k
 
@@ -99,7 +99,7 @@ module _ (t : Table) (u k : ℕ) (s : Shaped t) (h : u < units) (l : k < cores) 
   given-keeps : (v j : ℕ) → Kept (registerOf t v j) (registerOf given v j)
   given-keeps = reading (λ v j z. Kept (registerOf t v j) z) (record { ticket = refl; valid = refl; flag = λ f. refl }) (λ v j. kept (registerOf t v j))
 
-  given-flags : flags (unitOf given u) ≡ 1
+  given-flags : flags cores (unitOf given u) ≡ 1
   given-flags =
       let p : ℕ → Bool = λ (j : ℕ). registerOf t u j .flag in
       let q : ℕ → Bool = λ (j : ℕ). registerOf given u j .flag in
@@ -136,9 +136,9 @@ module _ (t : Table) (u k : ℕ) (s : Shaped t) (h : u < units) (l : k < cores) 
         few = λ v m. few v m (same-or-not v u);
       }
     where
-      few : (v : ℕ) → v < units → (v ≡ u) ⊎ (v ≢ u) → flags (unitOf given v) ≤ 1
-      few v m (inl q) = subst (λ (w : ℕ). flags (unitOf given w) ≤ 1) (sym q) (omega (arith, given-flags))
-      few v m (inr d) = subst (λ (x : LockUnit). flags x ≤ 1) (sym (unit-other t u v _ d)) (a .few v m)
+      few : (v : ℕ) → v < units → (v ≡ u) ⊎ (v ≢ u) → flags cores (unitOf given v) ≤ 1
+      few v m (inl q) = subst (λ (w : ℕ). flags cores (unitOf given w) ≤ 1) (sym q) (omega (arith, given-flags))
+      few v m (inr d) = subst (λ (x : LockUnit). flags cores x ≤ 1) (sym (unit-other t u v _ d)) (a .few v m)
 
 -- a valid register with its flag clear is in line
 not-in-line : (r : Register) → r .flag ≡ false → inLine r ≡ false → r .valid ≡ false
@@ -171,7 +171,7 @@ calm-one t u a h calm = go (some flag cores) refl
         let clear = some-none flag cores e in
         let none = none-count flag cores clear in
         one-flag x false
-        (none-some valid cores (λ k l. not-in-line (registerIn x k) (clear k l) (nobody-next x (calm none) k l)))
+        (none-some valid cores (λ k l. not-in-line (registerIn x k) (clear k l) (oldest-nobody t a u h .0 (calm none) k l)))
         none
 
 module _ (t : Table) (u : ℕ) where

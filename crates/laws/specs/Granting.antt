@@ -26,9 +26,9 @@ Rising (g ∷ more) = ((h : Grant) → List·Memᴰ h more → g .unit .0 < h .u
 
 -- the unit has no flag set, and the core is its next in line
 pub record Due (x : LockUnit) (k : CoreNo) : Type 0 where
-  pub free : flags x ≡ 0
+  pub free : flags cores x ≡ 0
   pub ticket : Ticket
-  pub oldest : next x ≡ Won k ticket
+  pub oldest : next cores x ≡ Won k ticket
 
 -- the grant is of a unit in the table, and due there
 pub record DueIn (t : Table) (g : Grant) : Type 0 where

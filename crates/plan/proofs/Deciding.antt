@@ -21,7 +21,7 @@ use Rattle.places.specs.Places.{corePlace}
 use Rattle.refusals.specs.Judge.{judge}
 use Rattle.refusals.specs.declared.verdict.Verdict.{Verdict}
 use Rattle.refusals.specs.declared.verdict.Verdict.the-variants.{Allowed, Refused}
-use Rattle.settling.specs.Line.{nextOf, won}
+use Rattle.settling.specs.Line.{next, won}
 use Rattle.settling.specs.Settle.{enter, leave}
 use Rattle.settling.specs.declared.settle.Settled.{Settled}
 use Rattle.effects.specs.Effect.{stepEffect}
@@ -82,7 +82,7 @@ module _
     (s : Step) (n : Counts) (m : Ticket) (cs : List Core) (c : Core) (x y : LockUnit) (v : Verdict) (p : Plan) (says : v ≡ judge s n m cs c)
   where
     abbrev effect-at : CoreNo → Effect
-    effect-at k = stepEffect s m c (registerIn y (k .0) .flag) (nextOf (n .cores) x)
+    effect-at k = stepEffect s m c (registerIn y (k .0) .flag) (next (n .cores) x)
 
     abbrev by : Verdict → Plan
     by z = decided z m c x y (carryOut (effect-at (corePlace s)) (n .cores) (corePlace s) c x y)

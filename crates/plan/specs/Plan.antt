@@ -21,7 +21,7 @@ use Rattle.places.specs.Places.{corePlace}
 use Rattle.refusals.specs.Judge.{judge}
 use Rattle.refusals.specs.declared.verdict.Verdict.{Verdict}
 use Rattle.refusals.specs.declared.verdict.Verdict.the-variants.{Allowed, Refused}
-use Rattle.settling.specs.Line.{nextOf, won}
+use Rattle.settling.specs.Line.{next, won}
 use Rattle.settling.specs.Settle.{enter, leave}
 use Rattle.effects.specs.Effect.{stepEffect}
 use Rattle.effects.specs.declared.kinds.Move.{Move}
@@ -70,4 +70,4 @@ decided (Refused a) m c x y p = refuse a m c x y
 unfoldable pub planStep : Step → Counts → Ticket → List Core → Core → LockUnit → LockUnit → Plan
 planStep s n m cs c x y =
     let k = corePlace s in
-    decided (judge s n m cs c) m c x y (carryOut (stepEffect s m c (registerIn y (k .0) .flag) (nextOf (n .cores) x)) (n .cores) k c x y)
+    decided (judge s n m cs c) m c x y (carryOut (stepEffect s m c (registerIn y (k .0) .flag) (next (n .cores) x)) (n .cores) k c x y)

@@ -85,7 +85,7 @@ module _ (t : Table) (held : Held t) (ok : sound t ≡ true) where
 
   -- so what a poll inherits is small
   inherited-small : (k : ℕ) → k < cores → twoStage (coreOf t k .state) ≡ true → inherited t (coreOf t k) .0 < circle
-  inherited-small k l two = go (next (unitOf t u)) refl
+  inherited-small k l two = go (next cores (unitOf t u)) refl
     where
       u : ℕ
       u = coreOf t k .first .0
@@ -97,10 +97,10 @@ module _ (t : Table) (held : Held t) (ok : sound t ≡ true) where
       pick true m h = h
       pick false m h = held .own k
 
-      go : (b : Best) → next (unitOf t u) ≡ b → heir n b .0 < circle
+      go : (b : Best) → next cores (unitOf t u) ≡ b → heir n b .0 < circle
       go Nobody e = held .own k
       go (Won j m) e =
-          let w = next-won (unitOf t u) j m e in
+          let w = next-won cores (unitOf t u) j m e in
           let place = first-in t (parts t ok) k l (two-stage (coreOf t k .state) two .live) in
           pick (heritable (compare (m .0) (n .0))) m
           (omega (arith, ap (λ (z : Ticket). z .0) (w .1), register-small u (j .0) place (w .2)))
@@ -223,7 +223,7 @@ module _ (t : Table) (x : Step) (held : Held t) (ok : sound t ≡ true) (may : v
   grant-placed : (g : Grant) → List·Memᴰ g (listed (onSound t x .grants)) → (g .unit .0 < units) × (g .core .0 < cores)
   grant-placed g m =
       let d = grants-exactly t (held .shaped) ok x may g .0 m in
-      (d .place, next-won (unitOf (moves t x) (g .unit .0)) (g .core) (d .due .ticket) (d .due .oldest) .2)
+      (d .place, next-won cores (unitOf (moves t x) (g .unit .0)) (g .core) (d .due .ticket) (d .due .oldest) .2)
 
   grants-placed : (l : Grants) → onSound t x .grants ≡ l → Placed l
   grants-placed None e = tt

@@ -1,2 +1,5 @@
+pub mod Pairing
+pub mod Beaten
+pub mod Lining
 pub mod Picking
 pub mod Determined

@@ -1,2 +1,4 @@
 pub mod Line
+pub mod Pairs
+pub mod Claims
 pub mod Settle

@@ -3,6 +3,7 @@
 //
 // Seams, for the effect and the plan of a step: `next_of`, `enter`, `leave`.
 mod line;
+mod pairs;
 mod settle;
 
 pub use line::Best;

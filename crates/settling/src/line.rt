@@ -1,14 +1,20 @@
 // Who stands in line at a unit, and who is next.
+use crate::pairs::Line;
+use crate::pairs::Losers;
+use crate::pairs::column;
+use crate::pairs::joined;
+use parts::CORES;
 use parts::LockUnit;
 use parts::Register;
-use ticket::Comparison;
 use ticket::CoreNo;
 use ticket::Ticket;
-use ticket::compare;
+ghost use mathlib.Core.Bool.{cond};
 ghost use mathlib.Core.Path.{_≡_};
 ghost use Prim.Native.Nat.{_≤_};
 ghost use Rattle.parts.specs.Parts.{cores};
-ghost use Rattle.settling.specs.Line.{inLine, ahead, better, nextOf};
+ghost use Rattle.settling.specs.Line.{inLine, next};
+ghost use Rattle.settling.specs.Pairs.{lined, unbeaten};
+ghost use Rattle.settling.specs.declared.line.Best.the-variants.{Won};
 
 // The core that is next in line at a unit, and its ticket.
 pub enum Best {
@@ -17,60 +23,62 @@ pub enum Best {
 }
 
 // Whether a register stands in line: valid, with its flag clear.
-fn in_line(r: Register) -> bool
+pub(crate) fn in_line(r: Register) -> bool
     ensures { λ x. ⌜ x ≡ inLine r ⌝ }
 {
     r.valid & !r.flag
 }
 
-// Whether a core whose ticket compares so with that of the best so far takes its place. In a sound table the
-// last two are not met.
-fn ahead(x: Comparison) -> bool
-    ensures { λ r. ⌜ r ≡ ahead x ⌝ }
+// Core k, in line with the ticket t, wins if it did not lose to another.
+fn unless(lost: bool, k: CoreNo, t: Ticket, best: Best) -> Best
+    ensures { λ r. ⌜ r ≡ cond lost best (Won k t) ⌝ }
 {
-    match x {
-        // It is the older one.
-        Comparison::Older => true,
-        // The best so far is the older one, and stays.
-        Comparison::Younger => false,
-        // No two cores show the same ticket at a unit: the best so far would stay.
-        Comparison::Same => false,
-        // All live tickets lie in one half of the circle: the later core would take the place.
-        Comparison::Opposite => true,
-    }
+    if lost { best } else { Best::Won(k, t) }
 }
 
-// Core k, which stands in line with the register r, against the best so far.
-fn better(r: Register, k: CoreNo, best: Best) -> Best
-    ensures { λ x. ⌜ x ≡ better r k best ⌝ }
+// The core in line that did not lose.
+fn unbeaten(n: u16, x: LockUnit, w: Line, l: Losers) -> Best
+    requires { ⌜ (n ≤ cores) × (w ≡ lined n x) ⌝ }
+    ensures { λ r. ⌜ r ≡ unbeaten n x l ⌝ }
 {
-    let a = r.ticket;
-    match best {
-        Best::Nobody => Best::Won(k, a),
-        Best::Won(j, t) => {
-            if ahead(compare(a, t)) {
-                Best::Won(k, a)
-            } else {
-                Best::Won(j, t)
-            }
-        }
-    }
-}
-
-// Seam: the core next in line. Of the first n that stand in line, it has the oldest ticket.
-pub fn next_of(n: u16, x: LockUnit) -> Best
-    requires { ⌜ n ≤ cores ⌝ }
-    ensures { λ r. ⌜ r ≡ nextOf n x ⌝ }
-{
+    let c = w.count;
     let mut best = Best::Nobody;
-    let mut k = 0;
-    while k < n {
-        let i = k as usize;
+    let mut a = 0;
+    while a < c {
+        let i = w.who[a];
         let r = x.registers[i];
-        if in_line(r) {
-            best = better(r, CoreNo(k), best);
-        }
-        k += 1;
+        let t = r.ticket;
+        let lost = l.lost[i];
+        let k = i as u16;
+        best = unless(lost, CoreNo(k), t, best);
+        a += 1;
     }
     best
+}
+
+// Seam: the core next in line. Of the first n that stand in line, it has the oldest ticket: it loses to nobody. Each that stands in line is
+// compared with those before it there.
+pub fn next_of(n: u16, x: LockUnit) -> Best
+    requires { ⌜ n ≤ cores ⌝ }
+    ensures { λ r. ⌜ r ≡ next n x ⌝ }
+{
+    let m = n as usize;
+    let mut w = Line {
+        count: 0,
+        who: [0; CORES],
+    };
+    let mut l = Losers {
+        lost: [false; CORES],
+    };
+    let mut j = 0;
+    while j < m {
+        let r = x.registers[j];
+        if in_line(r) {
+            let t = r.ticket;
+            l = column(x, w, j, t, l);
+            w = joined(w, j);
+        }
+        j += 1;
+    }
+    unbeaten(n, x, w, l)
 }

@@ -12,7 +12,7 @@ ghost use mathlib.Core.Path.{_≡_};
 ghost use Prim.Native.Nat.{_≤_, _<_};
 ghost use lib.Dec.{eqb};
 ghost use Rattle.parts.specs.Parts.{cores};
-ghost use Rattle.settling.specs.Line.{flagsOf, Within};
+ghost use Rattle.settling.specs.Line.{flags, Within};
 ghost use Rattle.settling.specs.Settle.{given, enter, leave};
 
 // A unit after it settled, and the core that it granted.
@@ -24,7 +24,7 @@ pub struct Settled {
 // Whether no flag is set.
 fn free(n: u16, x: LockUnit) -> bool
     requires { ⌜ n ≤ cores ⌝ }
-    ensures { λ r. ⌜ r ≡ eqb (flagsOf n x) 0 ⌝ }
+    ensures { λ r. ⌜ r ≡ eqb (flags n x) 0 ⌝ }
 {
     let mut k = 0;
     while k < n {

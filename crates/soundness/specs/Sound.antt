@@ -4,7 +4,7 @@ use mathlib.Core.Bool.{Bool, true, false, cond, _&&_, _||_, not}
 use mathlib.Core.List.{List}
 use lib.Dec.{leb, ltb, eqb}
 use lib.ListN.{getD}
-use Rattle.ticket.specs.Order.{compare}
+use Rattle.ticket.specs.Order.{behind, compare}
 use Rattle.ticket.specs.declared.kinds.Ticket.{Ticket}
 use Rattle.ticket.specs.declared.order.Comparison.{Comparison}
 use Rattle.ticket.specs.declared.order.Comparison.the-variants.{Older, Younger, Same, Opposite}
@@ -39,9 +39,10 @@ halfBehind x = elim x [ Older ↦ true | Younger ↦ false | Same ↦ false | Op
 abbrev pub recent : Ticket → Core → Bool
 recent m c = isIdle (c .state) || halfBehind (compare (c .own .0) (m .0))
 
--- "own tickets differ pairwise": core k, which is c, and core j, which is d
+-- "own tickets differ pairwise": core k, which is c, and core j, which is d. On the circle the one does not lie 0 behind the other; of tickets
+-- of sixteen bits that is the same (`differ-plain`).
 abbrev pub differ : ℕ → Core → ℕ → Core → Bool
-differ k c j d = eqb k j || isIdle (c .state) || isIdle (d .state) || not (eqb (c .own .0) (d .own .0))
+differ k c j d = eqb k j || isIdle (c .state) || isIdle (d .state) || not (eqb (behind (c .own .0) (d .own .0)) 0)
 
 -- "a core waiting for or away from the unit this core holds first": c's carried ticket belongs to d
 abbrev pub lends : Core → Core → Bool

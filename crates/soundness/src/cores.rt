@@ -8,6 +8,7 @@ use parts::unserved;
 use ticket::Comparison;
 use ticket::CoreNo;
 use ticket::Ticket;
+use ticket::behind;
 use ticket::compare;
 ghost use mathlib.Core.Path.{_≡_};
 ghost use Prim.Native.Nat.{_<_};
@@ -126,7 +127,8 @@ fn apart(all: [Core; CORES], k: CoreNo, c: Core) -> bool
     ok
 }
 
-// Cores k and j, which are c and d, are the same, or one of them has no ticket, or their tickets differ.
+// Cores k and j, which are c and d, are the same, or one of them has no ticket, or their tickets differ: on the circle
+// the one does not lie 0 behind the other.
 fn differ(k: CoreNo, c: Core, j: CoreNo, d: Core) -> bool
     ensures { λ r. ⌜ r ≡ differ (k .0) c (j .0) d ⌝ }
 {
@@ -134,7 +136,8 @@ fn differ(k: CoreNo, c: Core, j: CoreNo, d: Core) -> bool
     let z = d.state;
     let a = c.own;
     let b = d.own;
-    (k.0 == j.0) | is_idle(s) | is_idle(z) | !(a.0 == b.0)
+    let far = behind(a, b);
+    (k.0 == j.0) | is_idle(s) | is_idle(z) | !(far == 0)
 }
 
 // Whether a carried ticket that compares so with the own one reads older.

@@ -5,7 +5,7 @@ use mathlib.Core.Path.{_≡_, sym, _∙_}
 use Rattle.ticket.specs.declared.kinds.Ticket.{Ticket}
 use Rattle.parts.specs.State.{twoStage}
 use Rattle.parts.specs.declared.kinds.Core.{Core}
-use Rattle.settling.specs.Line.{nextOf}
+use Rattle.settling.specs.Line.{next}
 use Rattle.settling.specs.declared.line.Best.{Best}
 use Rattle.effects.specs.Effect.{hold, heir, inherit, wait, poll}
 use Rattle.effects.specs.declared.kinds.Effect.{Effect}
@@ -38,7 +38,7 @@ hold-requires c κs = search needs
 returns : tie.Need-returns
 returns c =
     let a = c .before .before .before .before .before .args in
-    holds (a .counter) (a .c) _ (nextOf (a .n) (a .x)) _ (c .before .if1 .taken) (c .hold .ensures)
+    holds (a .counter) (a .c) _ (next (a .n) (a .x)) _ (c .before .if1 .taken) (c .hold .ensures)
 
 two-stage-requires : tie.Need-two-stage-requires
 two-stage-requires c κs = search needs
@@ -55,7 +55,7 @@ inherit-requires c κs = search needs
 returns-2 : tie.Need-returns-2
 returns-2 c =
     let a = c .before .before .before .before .before .before .before .before .before .args in
-    inherits (a .counter) (a .c) _ (nextOf (a .n) (a .x)) _ _ (c .before .before .before .before .two-stage .ensures) (c .before .before .before .before .before .if1 .left) _ _
+    inherits (a .counter) (a .c) _ (next (a .n) (a .x)) _ _ (c .before .before .before .before .two-stage .ensures) (c .before .before .before .before .before .if1 .left) _ _
     (c .before .before .before .if2 .taken) (c .before .before .next-of .ensures) (c .before .heir .ensures) (c .inherit .ensures)
 
 wait-requires : tie.Need-wait-requires
@@ -64,7 +64,7 @@ wait-requires c κs = search needs
 returns-3 : tie.Need-returns-3
 returns-3 c =
     let a = c .before .before .before .before .before .before .before .args in
-    waits (a .counter) (a .c) _ (nextOf (a .n) (a .x)) _ _ (c .before .before .two-stage .ensures) (c .before .before .before .if1 .left) (c .before .if2 .left) (c .wait .ensures)
+    waits (a .counter) (a .c) _ (next (a .n) (a .x)) _ _ (c .before .before .two-stage .ensures) (c .before .before .before .if1 .left) (c .before .if2 .left) (c .wait .ensures)
 
 pub poll-spec : {M : Type 1} → statement M
 poll-spec =

@@ -9,7 +9,7 @@ use Rattle.ticket.specs.declared.kinds.Ticket.{Ticket}
 use Rattle.parts.specs.Parts.{standing, flagged, registered}
 use Rattle.parts.specs.declared.kinds.Register.{Register}
 use Rattle.parts.specs.declared.kinds.LockUnit.{LockUnit}
-use Rattle.settling.specs.Line.{flagsOf}
+use Rattle.settling.specs.Line.{flags}
 use Rattle.settling.specs.Settle.{enter}
 use Rattle.settling.specs.declared.line.Best.the-variants.{Nobody, Won}
 use Rattle.settling.specs.declared.settle.Settled.{Settled}
@@ -24,7 +24,7 @@ module _
     (r : Register)
     (b : Bool)
     (stands : r ≡ standing t)
-    (says : b ≡ eqb (flagsOf n x) 0)
+    (says : b ≡ eqb (flags n x) 0)
   where
     owns :
         (q : Register) →

@@ -9,25 +9,25 @@ use lib.Dec.{eqb}
 use Rattle.parts.specs.Fold.{one}
 use Rattle.parts.specs.Parts.{cores, registerIn}
 use Rattle.parts.specs.declared.kinds.LockUnit.{LockUnit}
-use Rattle.settling.specs.Line.{flagsOf}
+use Rattle.settling.specs.Line.{flags}
 use Rattle.parts.proofs.Folds.{none, finished, count-some}
 use Rattle.parts.proofs.Loops.{count-more}
 use Rattle.settling.proofs.settle.free.Statement.{statement}
 use Rattle.settling.proofs.settle.free.Tie as tie
 
 module _ (x : LockUnit) (k : ℕ) where
-  clear : 0 ≡ flagsOf k x → registerIn x k .flag ≡ false → 0 ≡ flagsOf (k + 1) x
+  clear : 0 ≡ flags k x → registerIn x k .flag ≡ false → 0 ≡ flags (k + 1) x
   clear so e = count-more (λ (i : ℕ). registerIn x i .flag) k 0 0 so (ap one (sym e))
 
-  found : (n : ℕ) → k < n → registerIn x k .flag ≡ true → false ≡ eqb (flagsOf n x) 0
-  found n h e = sym (ne-eqb (flagsOf n x) 0 (λ z. let l = count-some (λ (i : ℕ). registerIn x i .flag) n k h e in omega arith))
+  found : (n : ℕ) → k < n → registerIn x k .flag ≡ true → false ≡ eqb (flags n x) 0
+  found n h e = sym (ne-eqb (flags n x) 0 (λ z. let l = count-some (λ (i : ℕ). registerIn x i .flag) n k h e in omega arith))
 
-  none-found : (n : ℕ) → 0 ≡ flagsOf k x → k ≤ n → n ≤ k → true ≡ eqb (flagsOf n x) 0
+  none-found : (n : ℕ) → 0 ≡ flags k x → k ≤ n → n ≤ k → true ≡ eqb (flags n x) 0
   none-found n so low high =
-      sym (eq-eqb (flagsOf n x) 0 (sym (finished (λ (i m : ℕ). m + one (registerIn x i .flag)) k n 0 0 so low high)))
+      sym (eq-eqb (flags n x) 0 (sym (finished (λ (i m : ℕ). m + one (registerIn x i .flag)) k n 0 0 so low high)))
 
 abbrev Inv-loop : tie.InvT-loop
-Inv-loop n x k₀ k = (n ≤ cores) × (k ≤ n) × (0 ≡ flagsOf k x)
+Inv-loop n x k₀ k = (n ≤ cores) × (k ≤ n) × (0 ≡ flags k x)
 
 abbrev μ-loop : tie.MeasureT-loop
 μ-loop n x k₀ k = n - k

@@ -8,7 +8,7 @@ use Rattle.ticket.specs.declared.kinds.CoreNo.{CoreNo}
 use Rattle.parts.specs.Parts.{cores, blank, registerIn, registered}
 use Rattle.parts.specs.declared.kinds.Register.{Register}
 use Rattle.parts.specs.declared.kinds.LockUnit.{LockUnit}
-use Rattle.settling.specs.Line.{nextOf, Within}
+use Rattle.settling.specs.Line.{next, Within}
 use Rattle.settling.specs.Settle.{given, leave}
 use Rattle.settling.specs.declared.line.Best.{Best}
 use Rattle.settling.specs.declared.line.Best.the-variants.{Nobody}
@@ -17,12 +17,12 @@ use Rattle.settling.proofs.Picking.{next-within}
 use Rattle.settling.proofs.settle.leave.Statement.{statement}
 use Rattle.settling.proofs.settle.leave.Tie as tie
 
-within : (n : ℕ) (y : LockUnit) (w : Best) → n ≤ cores → w ≡ nextOf n y → Within w
-within n y w few is = subst Within (sym is) (next-within y n few)
+within : (n : ℕ) (y : LockUnit) (w : Best) → n ≤ cores → w ≡ next n y → Within w
+within n y w few is = subst Within (sym is) (next-within n y few)
 
 module _ (n : ℕ) (x y : LockUnit) (k : CoreNo) (q : Register) (none : q ≡ blank) (is : y ≡ registered x (k .0) q) where
   hands-on :
-      (w : Best) (s : Settled) → registerIn x (k .0) .flag ≡ true → w ≡ nextOf n y → s ≡ given y w → s ≡ leave n x k
+      (w : Best) (s : Settled) → registerIn x (k .0) .flag ≡ true → w ≡ next n y → s ≡ given y w → s ≡ leave n x k
   hands-on w s e ew es = rw (es, ew, is, none, e)
 
   stands-by : registerIn x (k .0) .flag ≡ false → _≡_ {A = Settled} (record { unit = y; winner = Nobody }) (leave n x k)
