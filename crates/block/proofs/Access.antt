@@ -5,7 +5,7 @@ use mathlib.Core.Path.{_≡_, refl, _∙_, ap}
 use lib.ListN.{length, set, length-set}
 use lib.Seq.{getD-set-same, getD-set-other}
 use Rattle.ticket.specs.declared.kinds.Ticket.{Ticket}
-use Rattle.parts.specs.Parts.{cores, units, blank, idle, absentUnit, registerIn}
+use Rattle.parts.specs.Parts.{cores, units, blank, idle, absentUnit, registerIn, registered}
 use Rattle.block.specs.Table.{coreOf, unitOf, registerOf, withUnit, withRegister, withCore, withCounter, Shaped}
 use Rattle.parts.specs.declared.kinds.Register.{Register}
 use Rattle.parts.specs.declared.kinds.LockUnit.{LockUnit}
@@ -28,7 +28,7 @@ module _ (t : Table) where
 
   module _ (u k : ℕ) (r : Register) where
     abbrev new : LockUnit
-    new = record { registers = set (unitOf t u .registers) k r }
+    new = registered (unitOf t u) k r
 
     pub register-same : Shaped t → u < units → k < cores → registerOf (withRegister t u k r) u k ≡ r
     register-same s h l =

@@ -5,17 +5,19 @@ use Prim.Native.Nat.{ℕ, _≤_, _<_}
 use mathlib.Core.Bool.{Bool, true, false, cond, _&&_}
 use mathlib.Core.List.{List, _++_}
 use mathlib.Core.Logic.{⊎-elim, _≢_}
-use mathlib.Core.Path.{_≡_, refl, sym, _∙_, ap, ap₂, subst}
+use mathlib.Core.Path.{_≡_, refl, sym, _∙_, ap, subst}
 use native.Mathlib.Omega.{arith}
 use lib.Dec.{eqb, ltb}
 use lib.ListN.{getD, set}
 use lib.Seq.{getD-set-other, set-getD, set-set, set-comm}
 use borrow.Author.Tests.{ltb-true, ltb-false, le-leb, eq-eqb, ne-eqb}
+use Rattle.ticket.specs.Order.{compare, Window}
 use Rattle.ticket.specs.declared.kinds.CoreNo.{CoreNo}
 use Rattle.ticket.specs.declared.kinds.Ticket.{Ticket}
 use Rattle.ticket.specs.declared.kinds.UnitNo.{UnitNo}
+use Rattle.ticket.specs.declared.order.Comparison.the-variants.{Same}
 use Rattle.parts.specs.State.{isIdle, stands, twoStage, waits}
-use Rattle.parts.specs.Parts.{cores, units, blank, standing, idle, absentUnit, registerIn, registered}
+use Rattle.parts.specs.Parts.{cores, units, blank, standing, absentUnit, registerIn, registered}
 use Rattle.parts.specs.Answer.{whose, packed}
 use Rattle.parts.specs.declared.kinds.Register.{Register}
 use Rattle.parts.specs.declared.kinds.LockUnit.{LockUnit}
@@ -23,18 +25,19 @@ use Rattle.parts.specs.declared.kinds.Core.{Core}
 use Rattle.parts.specs.declared.kinds.Counts.{Counts}
 use Rattle.parts.specs.declared.kinds.State.the-variants.{Idle}
 use Rattle.parts.specs.declared.answer.Answer.{Answer}
-use Rattle.parts.specs.declared.answer.Answer.the-variants.{Done, NoCore}
+use Rattle.parts.specs.declared.answer.Answer.the-variants.{Done, NotYet, NoCore}
 use Rattle.parts.specs.declared.answer.Grants.{Grants}
 use Rattle.parts.specs.declared.answer.Grants.the-variants.{None}
 use Rattle.parts.specs.declared.answer.Step.{Step}
 use Rattle.parts.specs.declared.answer.Step.the-variants.{R, N, P, I, C, L}
-use Rattle.places.specs.Places.{inCores, inUnits, corePlace, unitPlace, otherPlace}
+use Rattle.places.specs.Places.{inUnits, corePlace, unitPlace, otherPlace}
 use Rattle.refusals.specs.Judge.{unless, noCore, judge}
 use Rattle.refusals.specs.declared.verdict.Verdict.{Verdict}
 use Rattle.refusals.specs.declared.verdict.Verdict.the-variants.{Allowed, Refused}
-use Rattle.settling.specs.Line.{next, won}
-use Rattle.settling.specs.Settle.{enter, leave}
+use Rattle.settling.specs.Line.{inLine, next, stored, won}
+use Rattle.settling.specs.Settle.{leave, carry}
 use Rattle.settling.specs.declared.line.Best.{Best}
+use Rattle.settling.specs.declared.line.Best.the-variants.{Nobody}
 use Rattle.settling.specs.declared.settle.Settled.{Settled}
 use Rattle.effects.specs.Effect.{makes, hold, inherit, wait, stepEffect}
 use Rattle.effects.specs.declared.kinds.Move.{Move}
@@ -42,10 +45,9 @@ use Rattle.effects.specs.declared.kinds.Move.the-variants.{Enter, GiveUp}
 use Rattle.effects.specs.declared.kinds.Effect.{Effect}
 use Rattle.plan.specs.Plan.{refuse, withUnits, entered, givenUp, carryOut, decided, planStep}
 use Rattle.plan.specs.declared.planning.Plan.{Plan}
-use Rattle.block.specs.Table.{coreOf, unitOf, registerOf, withUnit, withRegister, withCore, withCounter, Shaped}
+use Rattle.block.specs.Table.{coreOf, unitOf, registerOf, withRegister, withCore, withCounter, Shaped}
 use Rattle.block.specs.Sound.{sound}
-use Rattle.block.specs.Parts.{Sound}
-use Rattle.block.specs.Steps.{verdict, awaited, effectOn, giveUp, affected, moves, settled, performed, refusal, answered, onSound}
+use Rattle.block.specs.Steps.{verdict, awaited, effectOn, affected, moves, settled, performed, refusal, answered, onSound}
 use Rattle.block.specs.PutBack.{putBack}
 use Rattle.block.specs.declared.table.Table.{Table}
 use Rattle.block.specs.declared.stepped.Stepped.{Stepped}
@@ -53,12 +55,17 @@ use Rattle.parts.proofs.Bools.{and-left, or-cases}
 use Rattle.parts.proofs.Ranging.{cores-few}
 use Rattle.places.proofs.Placing.{core-itself, unit-itself}
 use Rattle.block.proofs.Parts.{parts}
-use Rattle.block.proofs.Touched.{CalmTable, changed, freedTwo, settledUnit}
+use Rattle.settling.proofs.NextInLine.{stored-next}
+use Rattle.block.proofs.Almost.{Almost}
+use Rattle.block.proofs.Columns.{sound-almost}
+use Rattle.block.proofs.Kept.{moves-almost}
+use Rattle.block.proofs.Oldest.{shown-recent, shown-apart, oldest-nobody}
+use Rattle.block.proofs.Touched.{QuietTable, settledOne, freedTwo, settledUnit}
 use Rattle.block.proofs.Touching.{settled-none, settled-one, settled-two}
-use Rattle.block.proofs.Settling.{changes, frees}
-use Rattle.block.proofs.Standing.{no-and, bare, bare-one, sound-calm}
-use Rattle.block.proofs.Stepping.{calm-elsewhere, oneCleared, twoCleared, first-unit, second-unit, clears-one, clears-two, one-calm, two-calm, waiting-stands, holding, carrying, inherited, poll-cases, same-core, carrying-calm, awaited-second}
-use Rattle.block.proofs.Entering.{Past, next-here, enter-settles, leave-settles}
+use Rattle.block.proofs.Settling.{there, changes, frees}
+use Rattle.block.proofs.Standing.{no-and, bare, bare-one, sound-quiet}
+use Rattle.block.proofs.Stepping.{quiet-elsewhere, oneCleared, twoCleared, first-unit, second-unit, clears-one, clears-two, one-quiet, two-quiet, waiting-stands, holding, carrying, inherited, poll-cases, same-core, awaited-second}
+use Rattle.block.proofs.Entering.{Past, enter-settles, leave-settles, carry-settles}
 use Rattle.block.proofs.Allows.{is-idle, may-request, may-nest, may-poll, may-interrupt, may-come-back, may-release}
 use Rattle.block.proofs.Answering.{cores-in, request-in, nest-in, poll-in, interrupt-in, come-back-in, release-in}
 
@@ -107,10 +114,11 @@ module _ (t : Table) (k : CoreNo) where
   one-put :
       (u : UnitNo) (r : Register) (b : Core) (d : Move) (n m : Ticket) (y : LockUnit) (s : Settled) →
       s ≡ oneSettled u r →
-      putBack t k u u (withUnits (makes b d Done n m) (s .unit) y (packed (won (u .0) (s .winner)))) ≡ changed (withCounter t m) (k .0) b u r n
+      putBack t k u u (withUnits (makes b d Done n m) (s .unit) y (packed (won (u .0) (s .winner)))) ≡
+      settledOne (withCore (withRegister (withCounter t m) (u .0) (k .0) r) (k .0) b) u Done n
   one-put u r b d n m y s es =
       ap (λ (l : List LockUnit). ended l (makes b d Done n m) (packed (won (u .0) (s .winner)))) (set-set (t .units) (u .0) y (s .unit)) ∙
-      changes (withCounter t m) (k .0) b u r n _ s _ refl es refl
+      changes (withCounter t m) (k .0) b u r Done n s es
 
   -- two units, of which core k gave up its registers
   two-put :
@@ -124,7 +132,23 @@ module _ (t : Table) (k : CoreNo) where
       ap
       (λ (us : List LockUnit). ended us (makes b d Done n (t .counter)) (packed (won (u .0) (s .winner) ++ won (v .0) (z .winner))))
       (sym (set-comm (t .units) (u .0) (v .0) (s .unit) (z .unit) (λ e. omega arith))) ∙
-      frees t (k .0) b u v n _ _ s z _ l refl refl es ez refl
+      frees t (k .0) b u v n s z l es ez
+
+-- the tickets in line at a unit of a table between its moves and its settling
+module _ (t : Table) (a : Almost t) (u : ℕ) (h : u < units) (y : LockUnit) (is : unitOf t u ≡ y) where
+  line-valid : (j : ℕ) → inLine (registerIn y j) ≡ true → registerOf t u j .valid ≡ true
+  line-valid j l = ap (λ (x : LockUnit). registerIn x j .valid) is ∙ and-left (registerIn y j .valid) _ l
+
+  line-recent : (j : ℕ) → j < cores → inLine (registerIn y j) ≡ true → Window (t .counter .0) (registerIn y j .ticket .0)
+  line-recent j m l =
+      subst (λ (x : LockUnit). Window (t .counter .0) (registerIn x j .ticket .0)) is (shown-recent t a u h j m (line-valid j l))
+
+  line-apart :
+      (i j : ℕ) → i < cores → j < cores → i ≢ j → inLine (registerIn y i) ≡ true → inLine (registerIn y j) ≡ true →
+      compare (registerIn y i .ticket .0) (registerIn y j .ticket .0) ≢ Same
+  line-apart i j m n d l q =
+      subst (λ (x : LockUnit). compare (registerIn x i .ticket .0) (registerIn x j .ticket .0) ≢ Same) is
+      (shown-apart t a u h i j m n d (line-valid i l) (line-valid j q))
 
 -- A step of core k of a sound table that is allowed
 
@@ -141,6 +165,13 @@ module _ (t : Table) (shaped : Shaped t) (ok : sound t ≡ true) (k : CoreNo) (w
   small : k .0 < cores
   small = omega (arith, few)
 
+  almost : Almost t
+  almost = sound-almost t (parts t ok)
+
+  -- nobody next, nobody in line
+  none : (u : ℕ) → u < units → next cores (unitOf t u) ≡ Nobody → (j : ℕ) → j < cores → inLine (registerOf t u j) ≡ false
+  none u h = oldest-nobody t almost u h .0
+
   past : (u : ℕ) → u < units → Past n (unitOf t u)
   past u h j l m =
       let z = idle-past in
@@ -154,37 +185,46 @@ module _ (t : Table) (shaped : Shaped t) (ok : sound t ≡ true) (k : CoreNo) (w
 
   -- Entering
 
-  module _ (u : UnitNo) (b : Core) (q m : Ticket) (h : u .0 < units) (bare-there : registerOf t (u .0) (k .0) ≡ blank) where
-    abbrev enters : Effect
-    enters = makes b (Enter u q) Done q m
+  module _
+      (u : UnitNo)
+      (b : Core)
+      (q m : Ticket)
+      (h : u .0 < units)
+      (bare-there : registerOf t (u .0) (k .0) ≡ blank)
+      (moved-almost : Almost (affected t (k .0) (makes b (Enter u q) Done q m)))
+    where
+      abbrev enters : Effect
+      enters = makes b (Enter u q) Done q m
 
-    entering : (y : LockUnit) → putBack t k u u (entered enters n k u q (unitOf t (u .0)) y) ≡ settled (affected t (k .0) enters) Done q
-    entering y =
-        one-put t k u (standing q) b (Enter u q) q m y _
-        (enter-settles n (unitOf t (u .0)) k few (past (u .0) h) (shaped .registers-long (u .0) h) within (parts t ok .unit (u .0) h .oneFlag) q bare-there) ∙
-        settled-one (affected t (k .0) enters) u Done q h (calm-elsewhere t (u .0) (k .0) (standing q) (sound-calm t (parts t ok)))
+      entering : (y : LockUnit) → putBack t k u u (entered enters k u q (unitOf t (u .0)) y) ≡ settled (affected t (k .0) enters) Done q
+      entering y =
+          let z = there (t .units) (u .0) (k .0) (standing q) in
+          one-put t k u (standing q) b (Enter u q) q m y _
+          (enter-settles n (unitOf t (u .0)) k few (past (u .0) h) (shaped .registers-long (u .0) h) within (parts t ok .unit (u .0) h .oneFlag)
+          (parts t ok .unit (u .0) h .next) (none (u .0) h) q (m .0)
+          (line-recent (affected t (k .0) enters) moved-almost (u .0) h _ z)
+          (line-apart (affected t (k .0) enters) moved-almost (u .0) h _ z)
+          bare-there) ∙
+          settled-one (affected t (k .0) enters) u Done q h (quiet-elsewhere t (u .0) (k .0) (standing q) (sound-quiet t (parts t ok)))
 
-    enter-here :
-        (two : Bool) →
-        two ≡ false →
-        let i = inUnits u in
-        let j = cond two (inUnits (c .second)) (inUnits u) in
-        putBack t k i j (entered enters n k u q (unitOf t (i .0)) (unitOf t (j .0))) ≡ settled (affected t (k .0) enters) Done q
-    enter-here two one =
-        ap
-        (λ (a : Bool).
-        let j = cond a (inUnits (c .second)) (inUnits u) in
-        putBack t k (inUnits u) j (entered enters n k u q (unitOf t (inUnits u .0)) (unitOf t (j .0))))
-        one ∙
-        ap (λ (i : UnitNo). putBack t k i i (entered enters n k u q (unitOf t (i .0)) (unitOf t (i .0)))) (unit-itself u h) ∙
-        entering (unitOf t (u .0))
+      enter-here :
+          (two : Bool) →
+          two ≡ false →
+          let i = inUnits u in
+          let j = cond two (inUnits (c .second)) (inUnits u) in
+          putBack t k i j (entered enters k u q (unitOf t (i .0)) (unitOf t (j .0))) ≡ settled (affected t (k .0) enters) Done q
+      enter-here two one =
+          ap
+          (λ (a : Bool).
+          let j = cond a (inUnits (c .second)) (inUnits u) in
+          putBack t k (inUnits u) j (entered enters k u q (unitOf t (inUnits u .0)) (unitOf t (j .0))))
+          one ∙
+          ap (λ (i : UnitNo). putBack t k i i (entered enters k u q (unitOf t (i .0)) (unitOf t (i .0)))) (unit-itself u h) ∙
+          entering (unitOf t (u .0))
 
   -- Giving up
 
-  module _ (at : stands (c .state) ≡ true) (b : Core) (q : Ticket) where
-    abbrev leaves : Effect
-    leaves = makes b GiveUp Done q (t .counter)
-
+  module _ (at : stands (c .state) ≡ true) where
     first-in-table : c .first .0 < units
     first-in-table = first-unit t (k .0) small ok at
 
@@ -199,7 +239,8 @@ module _ (t : Table) (shaped : Shaped t) (ok : sound t ≡ true) (k : CoreNo) (w
     left-first : leave n (unitOf t (c .first .0)) k ≡ oneSettled t k (c .first) blank
     left-first =
         leave-settles n (unitOf t (c .first .0)) k few (past (c .first .0) first-in-table) (shaped .registers-long (c .first .0) first-in-table) within
-        (parts t ok .unit (c .first .0) first-in-table .oneFlag) first-valid
+        (parts t ok .unit (c .first .0) first-in-table .oneFlag) (parts t ok .unit (c .first .0) first-in-table .next)
+        (none (c .first .0) first-in-table) first-valid
 
     module _ (two : twoStage (c .state) ≡ true) where
       second-in-table : (c .first .0 < c .second .0) × (c .second .0 < units)
@@ -218,41 +259,46 @@ module _ (t : Table) (shaped : Shaped t) (ok : sound t ≡ true) (k : CoreNo) (w
       left-second =
           leave-settles n (unitOf t (c .second .0)) k few (past (c .second .0) (second-in-table .1))
           (shaped .registers-long (c .second .0) (second-in-table .1)) within
-          (parts t ok .unit (c .second .0) (second-in-table .1) .oneFlag) second-valid
+          (parts t ok .unit (c .second .0) (second-in-table .1) .oneFlag) (parts t ok .unit (c .second .0) (second-in-table .1) .next)
+          (none (c .second .0) (second-in-table .1)) second-valid
 
-    leave-here :
-        let i = inUnits (c .first) in
-        let j = cond (twoStage (c .state)) (inUnits (c .second)) (inUnits (c .first)) in
-        putBack t k i j (givenUp leaves n k c (unitOf t (i .0)) (unitOf t (j .0))) ≡ settled (affected t (k .0) leaves) Done q
-    leave-here = go (twoStage (c .state)) refl
-      where
-        one-left : UnitNo → LockUnit → Plan
-        one-left i y = let s = leave n (unitOf t (i .0)) k in withUnits leaves (s .unit) y (packed (won (c .first .0) (s .winner)))
+    module _ (b : Core) (q : Ticket) where
+      abbrev leaves : Effect
+      leaves = makes b GiveUp Done q (t .counter)
 
-        two-left : UnitNo → UnitNo → Plan
-        two-left i j =
-            let s = leave n (unitOf t (i .0)) k in
-            let z = leave n (unitOf t (j .0)) k in
-            withUnits leaves (s .unit) (z .unit) (packed (won (c .first .0) (s .winner) ++ won (c .second .0) (z .winner)))
+      leave-here :
+          let i = inUnits (c .first) in
+          let j = cond (twoStage (c .state)) (inUnits (c .second)) (inUnits (c .first)) in
+          putBack t k i j (givenUp leaves n k c (unitOf t (i .0)) (unitOf t (j .0))) ≡ settled (affected t (k .0) leaves) Done q
+      leave-here = go (twoStage (c .state)) refl
+        where
+          one-left : UnitNo → LockUnit → Plan
+          one-left i y = let s = leave n (unitOf t (i .0)) k in withUnits leaves (s .unit) y (packed (won (c .first .0) (s .winner)))
 
-        go :
-            (two : Bool) →
-            twoStage (c .state) ≡ two →
-            let i = inUnits (c .first) in
-            let j = cond two (inUnits (c .second)) (inUnits (c .first)) in
-            putBack t k i j (cond two (two-left i j) (one-left i (unitOf t (j .0)))) ≡ settled (affected t (k .0) leaves) Done q
-        go true two =
-            let b2 = second-in-table two in
-            ap (λ (i : UnitNo). putBack t k i (inUnits (c .second)) (two-left i (inUnits (c .second)))) (unit-itself (c .first) first-in-table) ∙
-            ap (λ (j : UnitNo). putBack t k (c .first) j (two-left (c .first) j)) (unit-itself (c .second) (b2 .1)) ∙
-            two-put t k (c .first) (c .second) b GiveUp q _ _ (b2 .0) left-first (left-second two) ∙
-            settled-two (withCore (twoCleared t (k .0)) (k .0) b) (c .first) (c .second) Done q (b2 .0) (b2 .1) (two-calm t (k .0) small ok at) ∙
-            ap (λ (z : Table). settled (withCounter (withCore z (k .0) b) (t .counter)) Done q) (sym (clears-two t (k .0) small ok at two))
-        go false one =
-            ap (λ (i : UnitNo). putBack t k i i (one-left i (unitOf t (i .0)))) (unit-itself (c .first) first-in-table) ∙
-            one-put t k (c .first) blank b GiveUp q (t .counter) _ _ left-first ∙
-            settled-one (withCore (oneCleared t (k .0)) (k .0) b) (c .first) Done q first-in-table (one-calm t (k .0) small ok at) ∙
-            ap (λ (z : Table). settled (withCounter (withCore z (k .0) b) (t .counter)) Done q) (sym (clears-one t (k .0) small ok at one))
+          two-left : UnitNo → UnitNo → Plan
+          two-left i j =
+              let s = leave n (unitOf t (i .0)) k in
+              let z = leave n (unitOf t (j .0)) k in
+              withUnits leaves (s .unit) (z .unit) (packed (won (c .first .0) (s .winner) ++ won (c .second .0) (z .winner)))
+
+          go :
+              (two : Bool) →
+              twoStage (c .state) ≡ two →
+              let i = inUnits (c .first) in
+              let j = cond two (inUnits (c .second)) (inUnits (c .first)) in
+              putBack t k i j (cond two (two-left i j) (one-left i (unitOf t (j .0)))) ≡ settled (affected t (k .0) leaves) Done q
+          go true two =
+              let b2 = second-in-table two in
+              ap (λ (i : UnitNo). putBack t k i (inUnits (c .second)) (two-left i (inUnits (c .second)))) (unit-itself (c .first) first-in-table) ∙
+              ap (λ (j : UnitNo). putBack t k (c .first) j (two-left (c .first) j)) (unit-itself (c .second) (b2 .1)) ∙
+              two-put t k (c .first) (c .second) b GiveUp q _ _ (b2 .0) left-first (left-second two) ∙
+              settled-two (withCore (twoCleared t (k .0)) (k .0) b) (c .first) (c .second) Done q (b2 .0) (b2 .1) (two-quiet t (k .0) small ok at) ∙
+              ap (λ (z : Table). settled (withCounter (withCore z (k .0) b) (t .counter)) Done q) (sym (clears-two t (k .0) small ok at two))
+          go false one =
+              ap (λ (i : UnitNo). putBack t k i i (one-left i (unitOf t (i .0)))) (unit-itself (c .first) first-in-table) ∙
+              one-put t k (c .first) blank b GiveUp q (t .counter) _ _ left-first ∙
+              settled-one (withCore (oneCleared t (k .0)) (k .0) b) (c .first) Done q first-in-table (one-quiet t (k .0) small ok at) ∙
+              ap (λ (z : Table). settled (withCounter (withCore z (k .0) b) (t .counter)) Done q) (sym (clears-one t (k .0) small ok at one))
 
   -- Polling: the first unit, and the one that the core waits for
 
@@ -279,50 +325,85 @@ module _ (t : Table) (shaped : Shaped t) (ok : sound t ≡ true) (k : CoreNo) (w
         putBack t k (c .first) (record { 0 = awaited c })
         (carryOut e n k c (unitOf t (c .first .0)) (unitOf t (awaited c)))
 
-    calm : CalmTable t
-    calm = sound-calm t (parts t ok)
+    quiet-all : QuietTable t
+    quiet-all = sound-quiet t (parts t ok)
 
-    polls : polled (effectOn t (P k)) ≡ settled (affected t (k .0) (effectOn t (P k))) (effectOn t (P k) .answer) (effectOn t (P k) .ticket)
+    -- the core shows another ticket at its second unit
+    module _
+        (two : twoStage (c .state) ≡ true)
+        (q : Ticket)
+        (clear : registerOf t (c .second .0) (k .0) .flag ≡ false)
+        (moved-almost : Almost (carrying t (k .0) q))
+      where
+        abbrev carries : Effect
+        carries = inherit (t .counter) c q
+
+        second-there : (c .first .0 < c .second .0) × (c .second .0 < units)
+        second-there = second-in-table waits-at two
+
+        carry-is : record { unit = carry n (unitOf t (c .second .0)) k q; winner = Nobody } ≡ oneSettled t k (c .second) (standing q)
+        carry-is =
+            let h = second-there .1 in
+            let z = there (t .units) (c .second .0) (k .0) (standing q) in
+            let valid = second-valid waits-at two in
+            carry-settles n (unitOf t (c .second .0)) k few (past (c .second .0) h) (shaped .registers-long (c .second .0) h) within
+            (parts t ok .unit (c .second .0) h .oneFlag) (parts t ok .unit (c .second .0) h .next) (none (c .second .0) h) q (t .counter .0)
+            (line-recent (carrying t (k .0) q) moved-almost (c .second .0) h _ z)
+            (line-apart (carrying t (k .0) q) moved-almost (c .second .0) h _ z)
+            valid clear (shown-recent t almost (c .second .0) h (k .0) small valid)
+
+        carried-on :
+            putBack t k (c .first) (c .second) (withUnits carries (unitOf t (c .first .0)) (carry n (unitOf t (c .second .0)) k q) None) ≡
+            settled (carrying t (k .0) q) NotYet q
+        carried-on =
+            let l = second-there .0 in
+            ap (λ (us : List LockUnit). ended t k us carries None) (first-same (t .units) (c .first .0) (c .second .0) _ (λ d. omega arith)) ∙
+            changes t (k .0) (carries .core) (c .second) (standing q) NotYet q _ carry-is ∙
+            settled-one (carrying t (k .0) q) (c .second) NotYet q (second-there .1)
+            (quiet-elsewhere t (c .second .0) (k .0) (standing q) quiet-all)
+
+    polls :
+        Almost (affected t (k .0) (effectOn t (P k))) →
+        polled (effectOn t (P k)) ≡ settled (affected t (k .0) (effectOn t (P k))) (effectOn t (P k) .answer) (effectOn t (P k) .ticket)
     polls =
-        poll-cases t k (λ (e : Effect). polled e ≡ settled (affected t (k .0) e) (e .answer) (e .ticket))
-        (λ flag. quiet t k (c .first) (record { 0 = awaited c }) (hold (t .counter) c) ∙ settled-none (holding t (k .0)) _ _ calm)
-        (λ flag two.
+        poll-cases t k (λ (e : Effect). Almost (affected t (k .0) e) → polled e ≡ settled (affected t (k .0) e) (e .answer) (e .ticket))
+        (λ flag a. quiet t k (c .first) (record { 0 = awaited c }) (hold (t .counter) c) ∙ settled-none (holding t (k .0)) _ _ quiet-all)
+        (λ flag two a.
         let q = inherited t c in
         let e = inherit (t .counter) c q in
-        let l = second-unit t (k .0) small ok waits-at two .0 in
-        let at-second : awaited c ≡ c .second .0 = ap (λ (a : Bool). cond a (c .second .0) (c .first .0)) two in
+        let at-second : awaited c ≡ c .second .0 = ap (λ (b : Bool). cond b (c .second .0) (c .first .0)) two in
         ap
-        (λ (v : ℕ). putBack t k (c .first) (record { 0 = v }) (withUnits e (unitOf t (c .first .0)) (registered (unitOf t v) (k .0) (standing q)) None))
+        (λ (v : ℕ). putBack t k (c .first) (record { 0 = v }) (withUnits e (unitOf t (c .first .0)) (carry n (unitOf t v) k q) None))
         at-second ∙
-        ap (λ (us : List LockUnit). ended t k us e None) (first-same (t .units) (c .first .0) (c .second .0) _ (λ d. omega arith)) ∙
-        settled-none (carrying t (k .0) q) _ _ (carrying-calm t (k .0) small ok w two (awaited-second t (k .0) two flag) q))
-        (λ flag one.
+        carried-on two q (awaited-second t (k .0) two flag) a)
+        (λ flag one a.
         quiet t k (c .first) (record { 0 = awaited c }) (wait (t .counter) c) ∙
-        settled-none (affected t (k .0) (wait (t .counter) c)) _ _ (subst CalmTable (sym (same-core t (k .0))) calm))
+        settled-none (affected t (k .0) (wait (t .counter) c)) _ _ (subst QuietTable (sym (same-core t (k .0))) quiet-all))
 
     -- what is read at the places is what the step reads
     poll-here :
+        Almost (moves t (P k)) →
         let i = inUnits (c .first) in
         let j = cond (twoStage (c .state)) (inUnits (c .second)) (inUnits (c .first)) in
         putBack t k i j
-        (carryOut (stepEffect (P k) (t .counter) c (registerIn (unitOf t (j .0)) (k .0) .flag) (next n (unitOf t (i .0)))) n k c (unitOf t (i .0)) (unitOf t (j .0))) ≡
+        (carryOut (stepEffect (P k) (t .counter) c (registerIn (unitOf t (j .0)) (k .0) .flag) (stored (unitOf t (i .0)))) n k c (unitOf t (i .0)) (unitOf t (j .0))) ≡
         performed t (P k)
-    poll-here =
+    poll-here a =
         ap
         (λ (i : UnitNo).
         let j = cond (twoStage (c .state)) (inUnits (c .second)) (inUnits (c .first)) in
         putBack t k i j
-        (carryOut (stepEffect (P k) (t .counter) c (registerIn (unitOf t (j .0)) (k .0) .flag) (next n (unitOf t (i .0)))) n k c (unitOf t (i .0)) (unitOf t (j .0))))
+        (carryOut (stepEffect (P k) (t .counter) c (registerIn (unitOf t (j .0)) (k .0) .flag) (stored (unitOf t (i .0)))) n k c (unitOf t (i .0)) (unitOf t (j .0))))
         (unit-itself (c .first) first-there) ∙
         ap
         (λ (j : UnitNo).
         putBack t k (c .first) j
-        (carryOut (stepEffect (P k) (t .counter) c (registerIn (unitOf t (j .0)) (k .0) .flag) (next n (unitOf t (c .first .0)))) n k c (unitOf t (c .first .0)) (unitOf t (j .0))))
+        (carryOut (stepEffect (P k) (t .counter) c (registerIn (unitOf t (j .0)) (k .0) .flag) (stored (unitOf t (c .first .0)))) n k c (unitOf t (c .first .0)) (unitOf t (j .0))))
         awaited-place ∙
         ap
         (λ (b : Best). polled (stepEffect (P k) (t .counter) c (registerOf t (awaited c) (k .0) .flag) b))
-        (sym (next-here n (unitOf t (c .first .0)) few (past (c .first .0) first-there))) ∙
-        polls
+        (stored-next cores (unitOf t (c .first .0)) (parts t ok .unit (c .first .0) first-there .next) (omega arith)) ∙
+        polls a
 
 -- The step whole
 
@@ -336,7 +417,7 @@ whole t s k v =
     let y = unitOf t (j .0) in
     putBack t k i j
     (decided v (t .counter) c x y
-    (carryOut (stepEffect s (t .counter) c (registerIn y (k .0) .flag) (next (t .counts .cores) x)) (t .counts .cores) k c x y))
+    (carryOut (stepEffect s (t .counter) c (registerIn y (k .0) .flag) (stored x)) (t .counts .cores) k c x y))
 
 off : (b : Bool) (v : Verdict) → b ≡ true → unless b NoCore v ≡ Refused NoCore
 off true v e = refl
@@ -362,20 +443,24 @@ allowed t shaped ok (R k u) may =
     let i = request-in t k ok u may in
     enter-here t shaped ok k (r .within) u _ (t .counter) _ (i .1)
     (nowhere t ok (k .0) (u .0) (i .0) (i .1) (ap stands (r .state)) (ap twoStage (r .state)))
+    (moves-almost t shaped (parts t ok) (R k u) may)
     (twoStage (coreOf t (k .0) .state)) (ap twoStage (r .state))
 allowed t shaped ok (N k u) may =
     let r = may-nest t k u may in
     let i = nest-in t k ok u may in
     enter-here t shaped ok k (r .within) u _ (coreOf t (k .0) .own) (t .counter) (i .1)
     (bare-one t (parts t ok) (k .0) (i .0) (ap twoStage (r .state)) (u .0) (i .1) (λ e. omega arith))
+    (moves-almost t shaped (parts t ok) (N k u) may)
     (twoStage (coreOf t (k .0) .state)) (ap twoStage (r .state))
-allowed t shaped ok (P k) may = poll-here t shaped ok k (may-poll t k may .0) (poll-in t k ok may .1)
+allowed t shaped ok (P k) may =
+    poll-here t shaped ok k (may-poll t k may .0) (poll-in t k ok may .1) (moves-almost t shaped (parts t ok) (P k) may)
 allowed t shaped ok (I k) may = leave-here t shaped ok k (may-interrupt t k may .0) (interrupt-in t k ok may .1) _ _
 allowed t shaped ok (C k) may =
     let r = may-come-back t k may in
     let i = come-back-in t k ok may in
     enter-here t shaped ok k (r .0) (coreOf t (k .0) .first) _ (coreOf t (k .0) .own) (t .counter) (i .1)
     (nowhere t ok (k .0) (coreOf t (k .0) .first .0) (i .0) (i .1) (ap stands (r .1)) (ap twoStage (r .1)))
+    (moves-almost t shaped (parts t ok) (C k) may)
     (twoStage (coreOf t (k .0) .state)) (ap twoStage (r .1))
 allowed t shaped ok (L k) may = leave-here t shaped ok k (may-release t k may .0) (release-in t k ok may .1) _ _
 

@@ -4,6 +4,7 @@ use mathlib.Core.Path.{_≡_}
 use Prim.Native.Nat.{ℕ}
 use Rattle.parts.specs.Fold.{every}
 use Rattle.parts.specs.Parts.{cores, units}
+use Rattle.settling.specs.Shown.{showsNext}
 use Rattle.block.specs.Table.{coreOf, unitOf, registerOf}
 use Rattle.parts.specs.Range.{inRange}
 use Rattle.soundness.specs.Agreement.{unitSound}
@@ -50,14 +51,18 @@ module _ (t : Table) where
   unfolding unitSound
   unit-parts u e =
       let p : ℕ → Bool = λ (k : ℕ). S.agrees (coreOf t k) u (registerOf t u k) in
+      let both = every p cores && S.oneFlag (unitOf t u) in
+      let e1 = and-left both (showsNext cores (unitOf t u)) e in
       record {
-        agrees = every-at p cores (and-left (every p cores) (S.oneFlag (unitOf t u)) e);
-        oneFlag = and-right (every p cores) (S.oneFlag (unitOf t u)) e;
+        agrees = every-at p cores (and-left (every p cores) (S.oneFlag (unitOf t u)) e1);
+        oneFlag = and-right (every p cores) (S.oneFlag (unitOf t u)) e1;
+        next = and-right both (showsNext cores (unitOf t u)) e;
       }
 
   unit-whole : (u : ℕ) → UnitSound t u → S.unitSound t u ≡ true
   unfolding unitSound
-  unit-whole u x = and-both (at-every (λ (k : ℕ). S.agrees (coreOf t k) u (registerOf t u k)) cores (x .agrees)) (x .oneFlag)
+  unit-whole u x =
+      and-both (and-both (at-every (λ (k : ℕ). S.agrees (coreOf t k) u (registerOf t u k)) cores (x .agrees)) (x .oneFlag)) (x .next)
 
   pub parts : S.sound t ≡ true → Sound t
   unfolding S.sound

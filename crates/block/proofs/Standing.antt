@@ -1,5 +1,5 @@
 -- What soundness says of one core: the units that it names are in the table, its registers elsewhere are blank, and nothing waits
--- to be settled.
+-- to be settled or shown.
 use Prim.Native.Nat.{ℕ, _+_, _≤_, _<_}
 use mathlib.Core.Bool.{Bool, true, false, cond, _&&_, not}
 use mathlib.Core.Logic.{⊎-elim, _≢_}
@@ -16,7 +16,7 @@ use Rattle.parts.specs.Range.{inRange, perClass}
 use Rattle.settling.specs.Line.{flags}
 use Rattle.block.specs.Sound as S
 use Rattle.block.specs.Parts.{Sound}
-use Rattle.block.proofs.Touched.{Calm, CalmTable}
+use Rattle.block.proofs.Touched.{Calm, QuietTable}
 use Rattle.parts.specs.declared.kinds.Register.{Register}
 use Rattle.parts.specs.declared.kinds.LockUnit.{LockUnit}
 use Rattle.parts.specs.declared.kinds.Core.{Core}
@@ -25,6 +25,7 @@ use Rattle.block.specs.declared.table.Table.{Table}
 use Rattle.parts.proofs.Bools.{and-left, and-right, or-cases, not-true-false, clash}
 use Rattle.parts.proofs.Folds.{some-none}
 use Rattle.settling.proofs.Picking.{next-nobody}
+use Rattle.settling.proofs.NextInLine.{shows-is}
 
 -- counts
 
@@ -118,7 +119,7 @@ module _ (t : Table) (s : Sound t) (k : ℕ) (h : k < cores) where
       bare u l (and-no (stands (c .state)) (eqb u (c .first .0)) (ne-eqb u (c .first .0) d))
       (and-no (twoStage (c .state)) (eqb u (c .second .0)) (ne-eqb u (c .second .0) d'))
 
--- a unit of a sound table has nothing to settle: without a flag it has no valid register
+-- a unit of a sound table has nothing to settle, since without a flag it has no valid register; and it shows its next in line
 
 pub one-none : (b : Bool) → 0 ≡ one b → b ≡ false
 one-none true e = absurd (let z : _≡_ {A = ℕ} 0 1 = e in omega arith)
@@ -129,5 +130,5 @@ unflagged x e zero' =
     let v = one-none (S.anyValid x) (sym zero' ∙ eqb-true (flags cores x) (one (S.anyValid x)) e) in
     next-nobody cores x (λ k h. no-and (registerIn x k .valid) (not (registerIn x k .flag)) (some-none (λ (j : ℕ). registerIn x j .valid) cores v k h))
 
-pub sound-calm : (t : Table) → Sound t → CalmTable t
-sound-calm t s u h = unflagged (unitOf t u) (s .unit u h .oneFlag)
+pub sound-quiet : (t : Table) → Sound t → QuietTable t
+sound-quiet t s u h = (unflagged (unitOf t u) (s .unit u h .oneFlag), shows-is cores (unitOf t u) (s .unit u h .next))

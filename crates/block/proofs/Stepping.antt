@@ -1,5 +1,5 @@
 -- The parts that steps are made of, on a sound table: where a core stands, what giving up clears, what a poll leaves, and that nothing
--- else waits to be settled.
+-- else waits to be settled or shown.
 use Prim.Native.Nat.{ℕ, zero, suc, _<_}
 use mathlib.Core.Bool.{Bool, true, false, cond, _&&_, _||_, not}
 use mathlib.Core.List.{List, [], _∷_}
@@ -34,8 +34,8 @@ use Rattle.parts.proofs.Bools.{and-left, clash}
 use Rattle.parts.proofs.Folds.{count-cong, at-some}
 use Rattle.block.proofs.Access.{unit-other}
 use Rattle.block.proofs.Parts.{parts}
-use Rattle.block.proofs.Touched.{Calm, CalmTable}
-use Rattle.block.proofs.Standing.{first-in, second-after, bare-one, bare-two, sound-calm}
+use Rattle.block.proofs.Touched.{Calm, Quiet, QuietTable}
+use Rattle.block.proofs.Standing.{first-in, second-after, bare-one, bare-two, sound-quiet}
 use Rattle.block.proofs.Touching.{giveUp-one, giveUp-two}
 
 -- a core that stands or waits has a ticket
@@ -55,10 +55,10 @@ waiting-stands WaitingSecond e = refl
 waiting-stands HoldingBoth e = refl
 waiting-stands Away e = e
 
--- a changed register leaves the other units calm
-pub calm-elsewhere :
-    (t : Table) (u k : ℕ) (r : Register) → CalmTable t → (v : ℕ) → v < units → v ≢ u → Calm (unitOf (withRegister t u k r) v)
-calm-elsewhere t u k r calm v l d = subst Calm (sym (unit-other t u v _ d)) (calm v l)
+-- a changed register leaves the other units quiet
+pub quiet-elsewhere :
+    (t : Table) (u k : ℕ) (r : Register) → QuietTable t → (v : ℕ) → v < units → v ≢ u → Quiet (unitOf (withRegister t u k r) v)
+quiet-elsewhere t u k r quiet v l d = subst Quiet (sym (unit-other t u v _ d)) (quiet v l)
 
 -- a core's register at its first unit cleared, and those at both
 abbrev pub oneCleared : Table → ℕ → Table
@@ -89,11 +89,11 @@ module _ (t : Table) (k : ℕ) (h : k < cores) (s : sound t ≡ true) (at : stan
       let b = second-unit two in
       giveUp-two t k (was .first .0) (was .second .0) (b .0) (b .1) (bare-two t (parts t s) k h)
 
-  pub one-calm : (v : ℕ) → v < units → v ≢ was .first .0 → Calm (unitOf (oneCleared t k) v)
-  one-calm = calm-elsewhere t (was .first .0) k blank (sound-calm t (parts t s))
+  pub one-quiet : (v : ℕ) → v < units → v ≢ was .first .0 → Quiet (unitOf (oneCleared t k) v)
+  one-quiet = quiet-elsewhere t (was .first .0) k blank (sound-quiet t (parts t s))
 
-  pub two-calm : (v : ℕ) → v < units → v ≢ was .first .0 → v ≢ was .second .0 → Calm (unitOf (twoCleared t k) v)
-  two-calm v l d d' = subst Calm (sym (unit-other (oneCleared t k) (was .second .0) v _ d')) (one-calm v l d)
+  pub two-quiet : (v : ℕ) → v < units → v ≢ was .first .0 → v ≢ was .second .0 → Quiet (unitOf (twoCleared t k) v)
+  two-quiet v l d d' = subst Quiet (sym (unit-other (oneCleared t k) (was .second .0) v _ d')) (one-quiet v l d)
 
 -- Polling: what the step leaves when it finds its flag set, and when it carries the ticket n; and the ticket that it carries: the oldest
 -- of its own and those in line at its first unit
@@ -156,7 +156,7 @@ set-cases (x ∷ xs) (suc i) a d =
 
 -- a register changed without touching its flag leaves the unit's flags
 pub flags-kept : (x : LockUnit) (k : ℕ) (r : Register) → registerIn x k .flag ≡ r .flag → flags cores (registered x k r) ≡ flags cores x
-flags-kept x k r e = count-cong (λ (j : ℕ). registerIn (record { registers = set (x .registers) k r }) j .flag) (λ (j : ℕ). registerIn x j .flag) cores (λ j h. go j (same-or-not j k))
+flags-kept x k r e = count-cong (λ (j : ℕ). registerIn (registered x k r) j .flag) (λ (j : ℕ). registerIn x j .flag) cores (λ j h. go j (same-or-not j k))
   where
     go : (j : ℕ) → (j ≡ k) ⊎ (j ≢ k) → getD (set (x .registers) k r) j blank .flag ≡ getD (x .registers) j blank .flag
     go j (inl q) =
@@ -199,7 +199,7 @@ module _ (t : Table) (k : ℕ) (h : k < cores) (s : sound t ≡ true) (w : waits
         eqb-true (flags cores x) (one (S.anyValid x)) (parts t s .unit (c .second .0) (b .1) .oneFlag) ∙
         ap one (at-some (λ (j : ℕ). registerIn x j .valid) cores k h stands-there)
 
-    pub carrying-calm : (n : Ticket) → CalmTable (carrying t k n)
+    pub carrying-calm : (n : Ticket) (v : ℕ) → v < units → Calm (unitOf (carrying t k n) v)
     carrying-calm n v l = go (same-or-not v (c .second .0))
       where
         go : (v ≡ c .second .0) ⊎ (v ≢ c .second .0) → Calm (unitOf (carrying t k n) v)
@@ -207,9 +207,9 @@ module _ (t : Table) (k : ℕ) (h : k < cores) (s : sound t ≡ true) (w : waits
             subst (λ (m : ℕ). Calm (unitOf (carrying t k n) m)) (sym q)
             (⊎-elim
             (λ new. subst Calm (sym new) (λ none. absurd (let e = flags-kept (unitOf t (c .second .0)) k (standing n) clear in omega (arith, e, none, flagged-there))))
-            (λ same. subst Calm (ap (λ (l : List LockUnit). getD l (c .second .0) absentUnit) (sym same)) (sound-calm t (parts t s) (c .second .0) (second-unit t k h s at two .1)))
+            (λ same. subst Calm (ap (λ (l : List LockUnit). getD l (c .second .0) absentUnit) (sym same)) (sound-quiet t (parts t s) (c .second .0) (second-unit t k h s at two .1) .0))
             (set-cases (t .units) (c .second .0) _ absentUnit))
-        go (inr d) = subst Calm (sym (unit-other t (c .second .0) v _ d)) (sound-calm t (parts t s) v l)
+        go (inr d) = subst Calm (sym (unit-other t (c .second .0) v _ d)) (sound-quiet t (parts t s) v l .0)
 
 -- at the second stage the awaited unit is the second
 pub awaited-second :

@@ -1,36 +1,36 @@
 -- A step by the one or two units that it touches: only those settle. That this is the settling of all units is shown where no other
 -- unit has anything to settle.
 use Prim.Native.Nat.{ℕ, _<_}
-use mathlib.Core.Bool.{cond}
 use mathlib.Core.List.{_++_}
 use mathlib.Core.Path.{_≡_}
-use lib.Dec.{eqb}
 use Rattle.ticket.specs.declared.kinds.Ticket.{Ticket}
 use Rattle.ticket.specs.declared.kinds.UnitNo.{UnitNo}
-use Rattle.parts.specs.Parts.{cores, units, blank}
+use Rattle.parts.specs.Parts.{cores, units, blank, flagged, registerIn, registered}
 use Rattle.parts.specs.Answer.{packed}
 use Rattle.parts.specs.declared.kinds.Core.{Core}
-use Rattle.parts.specs.declared.kinds.Register.{Register}
 use Rattle.parts.specs.declared.kinds.LockUnit.{LockUnit}
 use Rattle.parts.specs.declared.answer.Answer.{Answer}
 use Rattle.parts.specs.declared.answer.Answer.the-variants.{Done}
 use Rattle.parts.specs.declared.answer.Grants.the-variants.{None}
 use Rattle.settling.specs.Line.{flags, next, won}
 use Rattle.settling.specs.declared.line.Best.{Best}
-use Rattle.settling.specs.declared.line.Best.the-variants.{Nobody}
-use Rattle.settling.specs.Settle.{given}
+use Rattle.settling.specs.declared.line.Best.the-variants.{Nobody, Won}
+use Rattle.settling.specs.Shown.{shown}
 use Rattle.settling.specs.declared.settle.Settled.{Settled}
 use Rattle.block.specs.Table.{unitOf, withRegister, withCore}
-use Rattle.block.specs.Settle.{winner, give}
+use Rattle.block.specs.Settle.{winner, give, show}
 use Rattle.block.specs.declared.table.Table.{Table}
 use Rattle.block.specs.declared.stepped.Stepped.{Stepped}
 
--- nothing to settle at a unit, and nowhere in a table
+-- nothing to settle at a unit; and it shows its next in line, so that settling leaves it as it is; and so everywhere in a table
 abbrev pub Calm : LockUnit → Type 0
 Calm x = flags cores x ≡ 0 → next cores x ≡ Nobody
 
-abbrev pub CalmTable : Table → Type 0
-CalmTable t = (u : ℕ) → u < units → Calm (unitOf t u)
+abbrev pub Quiet : LockUnit → Type 0
+Quiet x = Calm x × (shown cores x ≡ x)
+
+abbrev pub QuietTable : Table → Type 0
+QuietTable t = (u : ℕ) → u < units → Quiet (unitOf t u)
 
 -- a table of which one unit settled, and the core that it granted
 pub record SettledAt : Type 0 where
@@ -38,7 +38,7 @@ pub record SettledAt : Type 0 where
   pub winner : Best
 
 abbrev pub settleAt : Table → ℕ → SettledAt
-settleAt t u = let w = winner (unitOf t u) in record { table = give t u w; winner = w }
+settleAt t u = let w = winner (unitOf t u) in record { table = show (give t u w) u; winner = w }
 
 -- a step that touched nothing that settles
 abbrev pub unsettled : Table → Answer → Ticket → Stepped
@@ -55,13 +55,14 @@ settledTwo t u v a n =
     let z = settleAt (s .table) (v .0) in
     record { table = z .table; answer = a; ticket = n; grants = packed (won (u .0) (s .winner) ++ won (v .0) (z .winner)) }
 
--- core k becomes c and its register at unit u becomes r; or it gives up its registers at two units
-abbrev pub changed : Table → ℕ → Core → UnitNo → Register → Ticket → Stepped
-changed t k c u r n = settledOne (withCore (withRegister t (u .0) k r) k c) u Done n
-
+-- core k becomes c and gives up its registers at two units
 abbrev pub freedTwo : Table → ℕ → Core → UnitNo → UnitNo → Ticket → Stepped
 freedTwo t k c u v n = settledTwo (withCore (withRegister (withRegister t (u .0) k blank) (v .0) k blank) k c) u v Done n
 
--- one unit by itself settles
+-- one unit by itself: the flag of the core that won is set; it settles, and shows who is next then
+abbrev pub given : LockUnit → Best → LockUnit
+given x Nobody = x
+given x (Won k n) = registered x (k .0) (flagged (registerIn x (k .0)))
+
 abbrev pub settledUnit : LockUnit → Settled
-settledUnit x = cond (eqb (flags cores x) 0) (given x (next cores x)) (given x Nobody)
+settledUnit x = let w = winner x in record { unit = shown cores (given x w); winner = w }

@@ -16,9 +16,9 @@ use Rattle.parts.specs.Parts.{cores, units, blank, flagged, absentUnit}
 use Rattle.block.specs.Table.{unitOf, registerOf, withUnit, withRegister}
 use Rattle.parts.specs.Answer.{packed}
 use Rattle.settling.specs.Line.{flags, inLine, next, won}
-use Rattle.block.specs.Settle.{winner, give, Settling, settleNext, settle}
+use Rattle.block.specs.Settle.{winner, give, show, Settling, settleNext, settle}
 use Rattle.block.specs.Steps.{settled, clear, giveUp}
-use Rattle.block.proofs.Touched.{Calm, CalmTable, settleAt, unsettled, settledOne, settledTwo}
+use Rattle.block.proofs.Touched.{Calm, Quiet, QuietTable, settleAt, unsettled, settledOne, settledTwo}
 use Rattle.parts.specs.declared.kinds.Register.{Register}
 use Rattle.parts.specs.declared.kinds.LockUnit.{LockUnit}
 use Rattle.block.specs.declared.table.Table.{Table}
@@ -48,29 +48,30 @@ still f x y a (suc n) so stands h = go (eqb a (suc n)) refl (still f x y a n so 
 
 -- Settling
 
--- the unit is calm and the table stays, or one core in line gets its flag
+-- the unit is calm and the table stays, or one core in line gets its flag; and then the unit shows its next in line
 pub by-settling :
     (t : Table) (u : ℕ) (P : Table → Type 0) →
+    ((z : Table) → P z → P (show z u)) →
     (Calm (unitOf t u) → P t) →
     ((k : ℕ) → k < cores → inLine (registerOf t u k) ≡ true → flags cores (unitOf t u) ≡ 0 → P (withRegister t u k (flagged (registerOf t u k)))) →
     P (settleAt t u .table)
-by-settling t u P calm given = go (eqb (flags cores (unitOf t u)) 0) refl (next cores (unitOf t u)) refl
+by-settling t u P shows calm given = go (eqb (flags cores (unitOf t u)) 0) refl (next cores (unitOf t u)) refl
   where
     go :
         (b : Bool) → eqb (flags cores (unitOf t u)) 0 ≡ b →
         (w : Best) → next cores (unitOf t u) ≡ w →
-        P (give t u (cond b w Nobody))
-    go true e Nobody q = calm (λ e'. q)
+        P (show (give t u (cond b w Nobody)) u)
+    go true e Nobody q = shows t (calm (λ e'. q))
     go true e (Won k n) q =
         let w = next-won cores (unitOf t u) k n q in
-        given (k .0) (w .2) (w .0) (eqb-true (flags cores (unitOf t u)) 0 e)
-    go false e w q = calm (λ e'. absurd (eqb-false (flags cores (unitOf t u)) 0 e e'))
+        shows _ (given (k .0) (w .2) (w .0) (eqb-true (flags cores (unitOf t u)) 0 e))
+    go false e w q = shows t (calm (λ e'. absurd (eqb-false (flags cores (unitOf t u)) 0 e e')))
 
 pub settleAt-unit : (t : Table) (u v : ℕ) → v ≢ u → unitOf (settleAt t u .table) v ≡ unitOf t v
-settleAt-unit t u v d = by-settling t u (λ z. unitOf z v ≡ unitOf t v) (λ calm. refl) (λ k l e none. unit-other t u v _ d)
+settleAt-unit t u v d = by-settling t u (λ z. unitOf z v ≡ unitOf t v) (λ z e. unit-other z u v _ d ∙ e) (λ calm. refl) (λ k l e none. unit-other t u v _ d)
 
 -- a unit with nothing to settle
-calm-winner : (x : LockUnit) → Calm x → winner x ≡ Nobody
+pub calm-winner : (x : LockUnit) → Calm x → winner x ≡ Nobody
 calm-winner x calm = go (eqb (flags cores x) 0) refl
   where
     go : (b : Bool) → eqb (flags cores x) 0 ≡ b → cond b (next cores x) Nobody ≡ Nobody
@@ -79,85 +80,92 @@ calm-winner x calm = go (eqb (flags cores x) 0) refl
 
 -- one more unit, by who won it
 after : Settling → ℕ → Best → Settling
-after s u w = record { table = give (s .table) u w; grants = s .grants ++ won u w }
+after s u w = record { table = show (give (s .table) u w) u; grants = s .grants ++ won u w }
 
-calm-still : (s : Settling) (u : ℕ) → Calm (unitOf (s .table) u) → settleNext u s ≡ s
+-- a unit that is put where it stood
+pub same-unit : (t : Table) (u : ℕ) → withUnit t u (unitOf t u) ≡ t
+same-unit t u =
+    ap (λ (l : List LockUnit). record { units = l; cores = t .cores; counts = t .counts; counter = t .counter }) (set-getD (t .units) u absentUnit)
+
+quiet-still : (s : Settling) (u : ℕ) → Quiet (unitOf (s .table) u) → settleNext u s ≡ s
 unfolding after
-calm-still s u calm =
-    ap (after s u) (calm-winner (unitOf (s .table) u) calm) ∙
+quiet-still s u quiet =
+    ap (after s u) (calm-winner (unitOf (s .table) u) (quiet .0)) ∙
+    ap (λ (x : LockUnit). record { table = withUnit (s .table) u x; grants = s .grants ++ [] }) (quiet .1) ∙
+    ap (λ (z : Table). record { table = z; grants = s .grants ++ [] }) (same-unit (s .table) u) ∙
     (λ i. record { table = s .table; grants = append-nil (s .grants) i })
 
--- where the units from a to n are calm, settling goes on from a to n without a change
+-- where the units from a to n are quiet, settling goes on from a to n without a change
 onward :
     (t : Table) (s : Settling) (a n : ℕ) →
     upTo settleNext a (record { table = t; grants = [] }) ≡ s →
-    ((v : ℕ) → a ≤ v → v < n → Calm (unitOf (s .table) v)) →
+    ((v : ℕ) → a ≤ v → v < n → Quiet (unitOf (s .table) v)) →
     a ≤ n →
     upTo settleNext n (record { table = t; grants = [] }) ≡ s
-onward t s a n so calm h =
-    still settleNext (record { table = t; grants = [] }) s a n so (λ v l m. calm-still s v (calm v l m)) h
+onward t s a n so quiet h =
+    still settleNext (record { table = t; grants = [] }) s a n so (λ v l m. quiet-still s v (quiet v l m)) h
 
 -- no unit, one unit or two units to settle
-pub settle-none : (t : Table) → CalmTable t → settle t ≡ record { table = t; grants = [] }
+pub settle-none : (t : Table) → QuietTable t → settle t ≡ record { table = t; grants = [] }
 unfolding upTo
-settle-none t calm = onward t (record { table = t; grants = [] }) 0 units refl (λ v l m. calm v m) (omega arith)
+settle-none t quiet = onward t (record { table = t; grants = [] }) 0 units refl (λ v l m. quiet v m) (omega arith)
 
 module _ (t : Table) (u : ℕ) (h : u < units) where
   abbrev first-settled : Settling
   first-settled = settleNext u (record { table = t; grants = [] })
 
-  -- after unit u, and up to n, where the units below n but u are calm
-  to-first : (n : ℕ) → u < n → n ≤ units → ((v : ℕ) → v < n → v ≢ u → Calm (unitOf t v)) → upTo settleNext n (record { table = t; grants = [] }) ≡ first-settled
+  -- after unit u, and up to n, where the units below n but u are quiet
+  to-first : (n : ℕ) → u < n → n ≤ units → ((v : ℕ) → v < n → v ≢ u → Quiet (unitOf t v)) → upTo settleNext n (record { table = t; grants = [] }) ≡ first-settled
   unfolding upTo
-  to-first n l m calm =
+  to-first n l m quiet =
       onward t first-settled (suc u) n
-      (ap (settleNext u) (onward t (record { table = t; grants = [] }) 0 u refl (λ v a b. calm v (omega arith) (λ e. omega arith)) (omega arith)))
-      (λ v a b. subst Calm (sym (settleAt-unit t u v (λ e. omega arith))) (calm v b (λ e. omega arith)))
+      (ap (settleNext u) (onward t (record { table = t; grants = [] }) 0 u refl (λ v a b. quiet v (omega arith) (λ e. omega arith)) (omega arith)))
+      (λ v a b. subst Quiet (sym (settleAt-unit t u v (λ e. omega arith))) (quiet v b (λ e. omega arith)))
       (omega arith)
 
-  pub settle-one : ((v : ℕ) → v < units → v ≢ u → Calm (unitOf t v)) → settle t ≡ first-settled
-  settle-one calm = to-first units h (omega arith) calm
+  pub settle-one : ((v : ℕ) → v < units → v ≢ u → Quiet (unitOf t v)) → settle t ≡ first-settled
+  settle-one quiet = to-first units h (omega arith) quiet
 
   pub settle-two :
-      (w : ℕ) → u < w → w < units → ((v : ℕ) → v < units → v ≢ u → v ≢ w → Calm (unitOf t v)) → settle t ≡ settleNext w first-settled
+      (w : ℕ) → u < w → w < units → ((v : ℕ) → v < units → v ≢ u → v ≢ w → Quiet (unitOf t v)) → settle t ≡ settleNext w first-settled
   unfolding upTo
-  settle-two w l m calm =
+  settle-two w l m quiet =
       onward t (settleNext w first-settled) (suc w) units
-      (ap (settleNext w) (to-first w l (omega arith) (λ v a d. calm v (omega arith) d (λ e. omega arith))))
-      (λ v a b. subst Calm (sym (settleAt-unit (first-settled .table) w v (λ e. omega arith) ∙ settleAt-unit t u v (λ e. omega arith))) (calm v b (λ e. omega arith) (λ e. omega arith)))
+      (ap (settleNext w) (to-first w l (omega arith) (λ v a d. quiet v (omega arith) d (λ e. omega arith))))
+      (λ v a b. subst Quiet (sym (settleAt-unit (first-settled .table) w v (λ e. omega arith) ∙ settleAt-unit t u v (λ e. omega arith))) (quiet v b (λ e. omega arith) (λ e. omega arith)))
       (omega arith)
 
 -- the same of a step's end
 finish : Answer → Ticket → Settling → Stepped
 finish a n s = record { table = s .table; answer = a; ticket = n; grants = packed (s .grants) }
 
-pub settled-none : (t : Table) (a : Answer) (n : Ticket) → CalmTable t → unsettled t a n ≡ settled t a n
+pub settled-none : (t : Table) (a : Answer) (n : Ticket) → QuietTable t → unsettled t a n ≡ settled t a n
 unfolding finish
-settled-none t a n calm = ap (finish a n) (sym (settle-none t calm))
+settled-none t a n quiet = ap (finish a n) (sym (settle-none t quiet))
 
 pub settled-one :
     (t : Table) (u : UnitNo) (a : Answer) (n : Ticket) →
     u .0 < units →
-    ((v : ℕ) → v < units → v ≢ u .0 → Calm (unitOf t v)) →
+    ((v : ℕ) → v < units → v ≢ u .0 → Quiet (unitOf t v)) →
     settledOne t u a n ≡ settled t a n
 unfolding finish
-settled-one t u a n h calm = ap (finish a n) (sym (settle-one t (u .0) h calm))
+settled-one t u a n h quiet = ap (finish a n) (sym (settle-one t (u .0) h quiet))
 
 pub settled-two :
     (t : Table) (u w : UnitNo) (a : Answer) (n : Ticket) →
     u .0 < w .0 →
     w .0 < units →
-    ((v : ℕ) → v < units → v ≢ u .0 → v ≢ w .0 → Calm (unitOf t v)) →
+    ((v : ℕ) → v < units → v ≢ u .0 → v ≢ w .0 → Quiet (unitOf t v)) →
     settledTwo t u w a n ≡ settled t a n
 unfolding finish
-settled-two t u w a n l m calm = ap (finish a n) (sym (settle-two t (u .0) (omega arith) (w .0) l m calm))
+settled-two t u w a n l m quiet = ap (finish a n) (sym (settle-two t (u .0) (omega arith) (w .0) l m quiet))
 
 -- Giving up
 
 clear-blank : (t : Table) (k u : ℕ) → registerOf t u k ≡ blank → clear k u t ≡ t
 clear-blank t k u e =
     ap (λ (r : Register). withRegister t u k r) (sym e) ∙
-    ap (λ (l : List Register). withUnit t u (record { registers = l })) (set-getD (unitOf t u .registers) k blank) ∙
+    ap (λ (l : List Register). withUnit t u (record { registers = l; next = unitOf t u .next })) (set-getD (unitOf t u .registers) k blank) ∙
     ap (λ (l : List LockUnit). record { units = l; cores = t .cores; counts = t .counts; counter = t .counter }) (set-getD (t .units) u absentUnit)
 
 module _ (t : Table) (k f : ℕ) where

@@ -4,6 +4,7 @@ use mathlib.Core.Bool.{true}
 use mathlib.Core.Path.{_≡_}
 use Rattle.parts.specs.Parts.{cores, units}
 use Rattle.parts.specs.Range.{inRange}
+use Rattle.settling.specs.Shown.{showsNext}
 use Rattle.block.specs.Table.{coreOf, unitOf, registerOf}
 use Rattle.block.specs.Sound as S
 use Rattle.block.specs.declared.table.Table.{Table}
@@ -19,6 +20,7 @@ pub record CoreSound (t : Table) (k : ℕ) : Type 0 where
 pub record UnitSound (t : Table) (u : ℕ) : Type 0 where
   pub agrees : (k : ℕ) → k < cores → S.agrees (coreOf t k) u (registerOf t u k) ≡ true
   pub oneFlag : S.oneFlag (unitOf t u) ≡ true
+  pub next : showsNext cores (unitOf t u) ≡ true
 
 pub record Sound (t : Table) : Type 0 where
   pub counts : inRange (t .counts) ≡ true

@@ -1,5 +1,5 @@
 -- "Settling. At the end of each accepted step, every unit that has no flag set and some valid register sets the flag of the core
--- with the oldest register. These are the step's grants." Units settle by rising number.
+-- with the oldest register. These are the step's grants." Units settle by rising number, and each shows its next in line (document 02, wish 7).
 use Prim.Native.Nat.{ℕ}
 use mathlib.Core.Bool.{cond}
 use mathlib.Core.List.{List, [], _++_}
@@ -8,10 +8,11 @@ use Rattle.ticket.specs.declared.kinds.Grant.{Grant}
 use Rattle.parts.specs.Fold.{upTo}
 use Rattle.parts.specs.Parts.{cores, units, flagged}
 use Rattle.settling.specs.Line.{flags, next, won}
+use Rattle.settling.specs.Shown.{shown}
 use Rattle.parts.specs.declared.kinds.LockUnit.{LockUnit}
 use Rattle.settling.specs.declared.line.Best.{Best}
 use Rattle.settling.specs.declared.line.Best.the-variants.{Nobody, Won}
-use Rattle.block.specs.Table.{unitOf, registerOf, withRegister}
+use Rattle.block.specs.Table.{unitOf, registerOf, withUnit, withRegister}
 use Rattle.block.specs.declared.table.Table.{Table}
 
 -- who wins a unit that settles: without a flag, its next in line
@@ -28,9 +29,13 @@ pub record Settling : Type 0 where
   pub table : Table
   pub grants : List Grant
 
--- one unit settles
+-- the unit shows its next in line
+abbrev pub show : Table → ℕ → Table
+show t u = withUnit t u (shown cores (unitOf t u))
+
+-- one unit settles, and shows who is next then
 abbrev pub settleNext : ℕ → Settling → Settling
-settleNext u s = let w = winner (unitOf (s .table) u) in record { table = give (s .table) u w; grants = s .grants ++ won u w }
+settleNext u s = let w = winner (unitOf (s .table) u) in record { table = show (give (s .table) u w) u; grants = s .grants ++ won u w }
 
 -- every unit settles
 abbrev pub settle : Table → Settling

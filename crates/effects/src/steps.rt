@@ -10,7 +10,7 @@ use parts::core;
 use parts::idle;
 use parts::two_stage;
 use settling::Best;
-use settling::next_of;
+use settling::stored;
 use ticket::Comparison;
 use ticket::CoreNo;
 use ticket::Ticket;
@@ -18,9 +18,9 @@ use ticket::UnitNo;
 use ticket::compare;
 use ticket::take;
 ghost use mathlib.Core.Path.{_≡_};
-ghost use Prim.Native.Nat.{_≤_, _<_};
+ghost use Prim.Native.Nat.{_<_};
 ghost use Rattle.parts.specs.Parts.{cores, registerIn};
-ghost use Rattle.settling.specs.Line.{next};
+ghost use Rattle.settling.specs.Line.{stored};
 ghost use Rattle.effects.specs.Effect.{request, nest, interrupt, comeBack, release, served, heritable, heir, hold, inherit, wait, poll, stepEffect};
 
 // R: takes the counter as ticket, enters the unit, waits.
@@ -189,9 +189,9 @@ fn wait(counter: Ticket, c: Core) -> Effect
 }
 
 // P: core k, which is c, waits at the unit y; at the second stage it holds x.
-fn poll(n: u16, counter: Ticket, k: CoreNo, c: Core, x: LockUnit, y: LockUnit) -> Effect
-    requires { ⌜ (n ≤ cores) × (k .0 < cores) ⌝ }
-    ensures { λ r. ⌜ r ≡ poll counter c (registerIn y (k .0) .flag) (next n x) ⌝ }
+fn poll(counter: Ticket, k: CoreNo, c: Core, x: LockUnit, y: LockUnit) -> Effect
+    requires { ⌜ k .0 < cores ⌝ }
+    ensures { λ r. ⌜ r ≡ poll counter c (registerIn y (k .0) .flag) (stored x) ⌝ }
 {
     let s = c.state;
     let own = c.own;
@@ -201,28 +201,20 @@ fn poll(n: u16, counter: Ticket, k: CoreNo, c: Core, x: LockUnit, y: LockUnit) -
         return hold(counter, c);
     }
     if two_stage(s) {
-        return inherit(counter, c, heir(own, next_of(n, x)));
+        return inherit(counter, c, heir(own, stored(x)));
     }
     wait(counter, c)
 }
 
-// Seam: the effect of a step of core k, which is c, in a table of n cores: x and y are the units at its places.
-pub fn step_effect(
-    s: Step,
-    n: u16,
-    counter: Ticket,
-    k: CoreNo,
-    c: Core,
-    x: LockUnit,
-    y: LockUnit,
-) -> Effect
-    requires { ⌜ (n ≤ cores) × (k .0 < cores) ⌝ }
-    ensures { λ r. ⌜ r ≡ stepEffect s counter c (registerIn y (k .0) .flag) (next n x) ⌝ }
+// Seam: the effect of a step of core k, which is c: x and y are the units at its places.
+pub fn step_effect(s: Step, counter: Ticket, k: CoreNo, c: Core, x: LockUnit, y: LockUnit) -> Effect
+    requires { ⌜ k .0 < cores ⌝ }
+    ensures { λ r. ⌜ r ≡ stepEffect s counter c (registerIn y (k .0) .flag) (stored x) ⌝ }
 {
     match s {
         Step::R(_, u) => request(u, counter),
         Step::N(_, u) => nest(u, counter, c),
-        Step::P(_) => poll(n, counter, k, c, x, y),
+        Step::P(_) => poll(counter, k, c, x, y),
         Step::I(_) => interrupt(counter, c),
         Step::C(_) => come_back(counter, c),
         Step::L(_) => release(counter, c),

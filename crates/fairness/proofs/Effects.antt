@@ -40,11 +40,11 @@ use Rattle.block.proofs.Parts.{whole}
 use Rattle.block.proofs.Standing.{units-few, bare}
 use Rattle.block.proofs.Stepping.{poll-cases, poll-moves}
 use Rattle.laws.specs.Granting.{listed}
-use Rattle.laws.proofs.Almost.{Almost}
+use Rattle.block.proofs.Almost.{Almost}
 use Rattle.laws.proofs.Granting.{accepted as allowed, refused, grants-listed}
 use Rattle.laws.proofs.Keeping.{Good}
-use Rattle.laws.proofs.Kept.{names-two, moves-almost, moves-core, moves-shaped, moves-moved}
-use Rattle.laws.proofs.Moving.{Moved}
+use Rattle.block.proofs.Kept.{names-two, moves-almost, moves-core, moves-shaped, moves-moved}
+use Rattle.block.proofs.Moving.{Moved}
 use Rattle.laws.proofs.Settling.{settle-same}
 use Rattle.fairness.specs.Run.{done, interrupts}
 

@@ -37,8 +37,8 @@ use Rattle.block.proofs.Allows.{may-request, may-nest, may-interrupt, may-come-
 use Rattle.parts.proofs.Bools.{and-left, clash}
 use Rattle.block.proofs.Parts.{parts}
 use Rattle.laws.proofs.Keeping.{Good, steps-keep, core-fresh, fresh-shaped, fresh-sound}
-use Rattle.laws.proofs.Kept.{live-close}
-use Rattle.laws.proofs.Oldest.{Fitting}
+use Rattle.block.proofs.Kept.{live-close}
+use Rattle.block.proofs.Oldest.{Fitting}
 use Rattle.fairness.specs.Run.{Place, Reached, done, requests, onward, start, afterAll}
 use Rattle.fairness.specs.Claims.{byNumber}
 use Rattle.fairness.proofs.Effects.{Accepted, Refusal, Keeps, Same, judged, on-good, answers-done, stepped-core, stepped-counter, keeps, poll-same}

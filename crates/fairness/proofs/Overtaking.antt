@@ -27,10 +27,10 @@ use Rattle.parts.specs.declared.answer.Step.{Step}
 use Rattle.parts.proofs.Bools.{and-both, clash}
 use Rattle.settling.proofs.Picking.{next-won}
 use Rattle.laws.specs.Granting.{Due}
-use Rattle.laws.proofs.Agreeing.{shows}
+use Rattle.block.proofs.Agreeing.{shows}
 use Rattle.laws.proofs.Granting.{settled-exactly}
-use Rattle.laws.proofs.Kept.{WaitsAt, in-line-waits}
-use Rattle.laws.proofs.Oldest.{Fitting, oldest-won}
+use Rattle.block.proofs.Kept.{WaitsAt, in-line-waits}
+use Rattle.block.proofs.Oldest.{Fitting, oldest-won}
 use Rattle.fairness.specs.Run.{Place, onward, afterAll}
 use Rattle.fairness.specs.Stretch.{grants, gives, leaves}
 use Rattle.fairness.specs.Claims.{NoOvertaking}

@@ -8,48 +8,42 @@ use mathlib.Core.Path.{_≡_, refl, sym, _∙_, ap, subst}
 use native.Mathlib.Nat.{not-suc-le-zero}
 use native.Mathlib.Omega.{arith}
 use lib.Dec.{eqb}
-use lib.ListN.{set}
 use lib.Seq.{getD-set-same, getD-set-other}
 use borrow.Author.Tests.{eqb-true, eq-eqb}
 use Rattle.ticket.specs.declared.kinds.CoreNo.{CoreNo}
 use Rattle.parts.specs.Parts.{cores, units, coreNo, blank, flagged, registerIn}
-use Rattle.block.specs.Table.{unitOf, registerOf, Shaped}
+use Rattle.block.specs.Table.{unitOf, registerOf, withRegister, Shaped}
 use Rattle.settling.specs.Line.{flags, next}
-use Rattle.block.specs.Settle.{winner, give, settleNext, settle}
+use Rattle.settling.specs.Shown.{shown}
+use Rattle.block.specs.Settle.{winner, give, show, settleNext, settle}
 use Rattle.parts.specs.declared.kinds.Register.{Register}
 use Rattle.parts.specs.declared.kinds.LockUnit.{LockUnit}
 use Rattle.block.specs.declared.table.Table.{Table}
 use Rattle.settling.specs.declared.line.Best.{Best}
 use Rattle.settling.specs.declared.line.Best.the-variants.{Nobody, Won}
-use Rattle.block.proofs.Access.{unit-same}
+use Rattle.block.proofs.Access.{unit-same, shaped-register}
 use Rattle.parts.proofs.Along.{same-or-not, to-last, along}
 use Rattle.settling.proofs.Picking.{next-won}
-use Rattle.block.proofs.Touched.{settleAt}
+use Rattle.block.proofs.Touched.{settleAt, given, settledUnit}
 use Rattle.block.proofs.Touching.{settleAt-unit}
 use Rattle.laws.specs.Granting.{Due}
 use Rattle.laws.proofs.Settling.{Kept, settleAt-shaped, settleAt-keeps}
 
--- a unit after its winner got the flag
-abbrev given : LockUnit → Best → LockUnit
-given x Nobody = x
-given x (Won k n) = record { registers = set (x .registers) (k .0) (flagged (registerIn x (k .0))) }
-
 module _ (t : Table) (u : ℕ) (s : Shaped t) (h : u < units) where
-  settled-here : unitOf (settleAt t u .table) u ≡ given (unitOf t u) (winner (unitOf t u))
-  settled-here = go (eqb (flags cores (unitOf t u)) 0) (next cores (unitOf t u))
+  settled-here : unitOf (settleAt t u .table) u ≡ settledUnit (unitOf t u) .unit
+  settled-here = go (winner (unitOf t u))
     where
-      go :
-          (b : Bool) (w : Best) →
-          unitOf (give t u (cond b w Nobody)) u ≡ given (unitOf t u) (cond b w Nobody)
-      go true Nobody = refl
-      go true (Won k n) = unit-same t u _ s h
-      go false w = refl
+      go : (w : Best) → unitOf (show (give t u w) u) u ≡ shown cores (given (unitOf t u) w)
+      go Nobody = unit-same t u _ s h
+      go (Won k n) =
+          let r = flagged (registerOf t u (k .0)) in
+          unit-same (withRegister t u (k .0) r) u _ (shaped-register t u (k .0) r s h) h ∙ ap (shown cores) (unit-same t u _ s h)
 
 -- after the units below n
 record Turned (t : Table) (n : ℕ) (z : Table) : Type 0 where
   shaped : Shaped z
   ahead : (v : ℕ) → n ≤ v → unitOf z v ≡ unitOf t v
-  behind : (v : ℕ) → v < n → unitOf z v ≡ given (unitOf t v) (winner (unitOf t v))
+  behind : (v : ℕ) → v < n → unitOf z v ≡ settledUnit (unitOf t v) .unit
   keeps : (v j : ℕ) → Kept (registerOf t v j) (registerOf z v j)
 
 module _ (t : Table) (s : Shaped t) where
@@ -67,9 +61,9 @@ module _ (t : Table) (s : Shaped t) where
         shaped = settleAt-shaped (z .table) n (m .shaped) h;
         ahead = λ v l. settleAt-unit (z .table) n v (λ e. omega arith) ∙ m .ahead v (omega arith);
         behind =
-            to-last (λ v. unitOf (settleAt (z .table) n .table) v ≡ given (unitOf t v) (winner (unitOf t v))) n
+            to-last (λ v. unitOf (settleAt (z .table) n .table) v ≡ settledUnit (unitOf t v) .unit) n
             (λ v l. settleAt-unit (z .table) n v (λ e. omega arith) ∙ m .behind v l)
-            (settled-here (z .table) n (m .shaped) h ∙ ap (λ (x : LockUnit). given x (winner x)) (m .ahead n (omega arith)));
+            (settled-here (z .table) n (m .shaped) h ∙ ap (λ (x : LockUnit). settledUnit x .unit) (m .ahead n (omega arith)));
         keeps = λ v j.
             let a = m .keeps v j in
             let b = settleAt-keeps (z .table) n (m .shaped) h v j in
@@ -112,6 +106,6 @@ module _ (t : Table) (s : Shaped t) where
         let x = unitOf t u in
         let w : winner x ≡ Won k (d .ticket) = simp (eq-eqb (flags cores x) 0 (d .free), d .oldest) in
         let small = next-won cores x k (d .ticket) (d .oldest) .2 in
-        ap (λ (y : LockUnit). registerIn y (k .0) .flag) (turned .behind u h ∙ ap (given x) w) ∙
+        ap (λ (y : LockUnit). registerIn y (k .0) .flag) (turned .behind u h ∙ ap (λ (b : Best). shown cores (given x b)) w) ∙
         ap (λ (r : Register). r .flag)
         (getD-set-same (x .registers) (k .0) (flagged (registerIn x (k .0))) blank (rw (s .registers-long u h) small))

@@ -35,7 +35,7 @@ use Rattle.block.proofs.Stepping.{poll-moves}
 use Rattle.laws.specs.Granting.{listed, Due}
 use Rattle.laws.proofs.Granting.{settled-exactly}
 use Rattle.laws.proofs.Keeping.{Good}
-use Rattle.laws.proofs.Moving.{affected-shown}
+use Rattle.block.proofs.Moving.{affected-shown}
 use Rattle.fairness.specs.Run.{Place, done, requests, interrupts, onward, afterAll}
 use Rattle.fairness.specs.Stretch.{grants, gives, entersAt, enters, leaves, stretch, isEarlier, among}
 use Rattle.fairness.proofs.Counting.{at-gives}

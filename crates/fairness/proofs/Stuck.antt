@@ -26,9 +26,9 @@ use Rattle.parts.proofs.Bools.{clash}
 use Rattle.parts.proofs.Folds.{some-at, at-some, some-none, none-count}
 use Rattle.block.proofs.Standing.{first-in, second-after}
 use Rattle.block.proofs.Stepping.{poll-cases}
-use Rattle.laws.proofs.Agreeing.{AtFirst, AtSecond, shows, flag-at}
+use Rattle.block.proofs.Agreeing.{AtFirst, AtSecond, shows, flag-at}
 use Rattle.laws.proofs.Keeping.{Good}
-use Rattle.laws.proofs.Kept.{names-two, live-within}
+use Rattle.block.proofs.Kept.{names-two, live-within}
 use Rattle.fairness.specs.Claims.{NeverStuck}
 use Rattle.fairness.proofs.Effects.{accepted}
 use Rattle.fairness.proofs.Invariant.{Live, live-small, numbered}

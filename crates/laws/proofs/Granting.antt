@@ -25,7 +25,7 @@ use Rattle.block.specs.Sound as S
 use Rattle.block.specs.Sound.{sound}
 use Rattle.laws.specs.Granting.{listed, Rising, Due, DueIn, anyInLine}
 use Rattle.block.specs.Steps.{giveUp, awaited, onSound, answered, refusal, verdict, moves, performed}
-use Rattle.block.proofs.Touched.{Calm, CalmTable}
+use Rattle.block.proofs.Touched.{Quiet, QuietTable}
 use Rattle.parts.specs.declared.kinds.Core.{Core}
 use Rattle.parts.specs.declared.kinds.LockUnit.{LockUnit}
 use Rattle.parts.specs.declared.kinds.Register.{Register}
@@ -40,20 +40,20 @@ use Rattle.block.specs.declared.stepped.Stepped.{Stepped}
 use Rattle.refusals.specs.declared.verdict.Verdict.{Verdict}
 use Rattle.refusals.specs.declared.verdict.Verdict.the-variants.{Allowed, Refused}
 use Rattle.parts.proofs.Along.{same-or-not, along, upTo-cong}
-use Rattle.laws.proofs.Almost.{Almost}
-use Rattle.laws.proofs.Agreeing.{line-waits}
+use Rattle.block.proofs.Almost.{Almost}
+use Rattle.block.proofs.Agreeing.{line-waits}
 use Rattle.block.proofs.Answering.{request-in, nest-in, poll-in, interrupt-in, come-back-in, release-in}
 use Rattle.parts.proofs.Bools.{clash}
 use Rattle.parts.proofs.Folds.{at-some, none-some, count-none}
-use Rattle.laws.proofs.Kept.{Two as Both, names-two, two-stage, moves-almost}
+use Rattle.block.proofs.Kept.{Two as Both, names-two, two-stage, moves-almost}
 use Rattle.block.proofs.Parts.{parts}
 use Rattle.settling.proofs.Picking.{next-won}
-use Rattle.laws.proofs.Oldest.{oldest-nobody}
+use Rattle.block.proofs.Oldest.{oldest-nobody}
 use Rattle.laws.proofs.Settling.{settle-same}
-use Rattle.block.proofs.Standing.{sound-calm}
-use Rattle.block.proofs.Stepping.{calm-elsewhere, first-unit, second-unit, clears-one, clears-two, one-calm, two-calm, inherited, poll-moves, carrying-calm, awaited-second}
+use Rattle.block.proofs.Standing.{sound-quiet}
+use Rattle.block.proofs.Stepping.{waiting-stands, quiet-elsewhere, first-unit, second-unit, clears-one, clears-two, one-quiet, two-quiet, inherited, carrying, poll-moves, carrying-calm, awaited-second}
 use Rattle.block.proofs.Touched.{settleAt}
-use Rattle.block.proofs.Touching.{settle-none, settle-one, settle-two, settleAt-unit}
+use Rattle.block.proofs.Touching.{calm-winner, settle-none, settle-one, settle-two, settleAt-unit}
 
 -- Who wins a unit
 
@@ -249,21 +249,21 @@ settled-waiting t a g m =
     (sym (settle-same t .0))
     (in-line-awaits t (g .unit .0) (g .core .0) a (d .place) (w .2) (w .0))
 
--- Settling where all but one or two units are calm
+-- Settling where all but one or two units are quiet
 
 module _ (t : Table) (u : ℕ) (h : u < units) where
   pub settle-at-one :
-      ((v : ℕ) → v < units → v ≢ u → Calm (unitOf t v)) → settle t .grants ≡ won u (winner (unitOf t u))
-  settle-at-one calm = ap (λ (z : Settling). z .grants) (settle-one t u h calm)
+      ((v : ℕ) → v < units → v ≢ u → Quiet (unitOf t v)) → settle t .grants ≡ won u (winner (unitOf t u))
+  settle-at-one quiet = ap (λ (z : Settling). z .grants) (settle-one t u h quiet)
 
   pub settle-at-two :
       (w : ℕ) →
       u < w →
       w < units →
-      ((v : ℕ) → v < units → v ≢ u → v ≢ w → Calm (unitOf t v)) →
+      ((v : ℕ) → v < units → v ≢ u → v ≢ w → Quiet (unitOf t v)) →
       settle t .grants ≡ won u (winner (unitOf t u)) ++ won w (winner (unitOf t w))
-  settle-at-two w l m calm =
-      ap (λ (z : Settling). z .grants) (settle-two t u h w l m calm) ∙
+  settle-at-two w l m quiet =
+      ap (λ (z : Settling). z .grants) (settle-two t u h w l m quiet) ∙
       ap (λ (x : LockUnit). won u (winner (unitOf t u)) ++ won w (winner x)) (settleAt-unit t u w (λ e. omega arith))
 
 -- the first of two grants is of a first-class unit, the second of a second-class one
@@ -314,8 +314,8 @@ module _ (t : Table) (step : Step) where
   refused a e = ap (λ (v : Verdict). answered t v (performed t step)) e
 
 module _ (t : Table) (s : sound t ≡ true) where
-  calm : CalmTable t
-  calm = sound-calm t (parts t s)
+  quiet : QuietTable t
+  quiet = sound-quiet t (parts t s)
 
   -- a core that enters a unit touches that unit
   module _ (u k : ℕ) (n m : Ticket) (c : Core) (h : u < units) where
@@ -323,7 +323,7 @@ module _ (t : Table) (s : sound t ≡ true) where
     entering = withCounter (withCore (withRegister t u k (standing n)) k c) m
 
     pub enter-grants : settle entering .grants ≡ won u (winner (unitOf entering u))
-    enter-grants = settle-at-one entering u h (calm-elsewhere t u k (standing n) calm)
+    enter-grants = settle-at-one entering u h (quiet-elsewhere t u k (standing n) quiet)
 
     enter-brief : Brief t (settle entering .grants)
     enter-brief = subst (Brief t) (sym enter-grants) (brief-one t u (winner (unitOf entering u)))
@@ -339,7 +339,7 @@ module _ (t : Table) (s : sound t ≡ true) where
     pub free-grants-one : twoStage (was .state) ≡ false → settle freeing .grants ≡ won (was .first .0) (winner (unitOf freeing (was .first .0)))
     free-grants-one one =
         settle-at-one freeing (was .first .0) (first-unit t k (i .0) s (i .1))
-        (λ v l d. subst (λ (y : Table). Calm (unitOf y v)) (sym (clears-one t k (i .0) s (i .1) one)) (one-calm t k (i .0) s (i .1) v l d))
+        (λ v l d. subst (λ (y : Table). Quiet (unitOf y v)) (sym (clears-one t k (i .0) s (i .1) one)) (one-quiet t k (i .0) s (i .1) v l d))
 
     pub free-grants-two :
         twoStage (was .state) ≡ true →
@@ -350,7 +350,7 @@ module _ (t : Table) (s : sound t ≡ true) where
         let b = second-unit t k (i .0) s (i .1) two in
         settle-at-two freeing (was .first .0) (first-unit t k (i .0) s (i .1)) (was .second .0) (b .0) (b .1)
         (λ v l d d'.
-        subst (λ (y : Table). Calm (unitOf y v)) (sym (clears-two t k (i .0) s (i .1) two)) (two-calm t k (i .0) s (i .1) v l d d'))
+        subst (λ (y : Table). Quiet (unitOf y v)) (sym (clears-two t k (i .0) s (i .1) two)) (two-quiet t k (i .0) s (i .1) v l d d'))
 
     free-brief : Brief t (settle freeing .grants)
     free-brief = go (twoStage (was .state)) refl
@@ -365,18 +365,29 @@ module _ (t : Table) (s : sound t ≡ true) where
         go false one =
             subst (Brief t) (sym (free-grants-one one)) (brief-one t (was .first .0) (winner (unitOf freeing (was .first .0))))
 
-  -- a poll touches no unit that settles
+  -- a poll grants nothing: where it shows another ticket, the unit has its flag elsewhere
   module _ (k : CoreNo) (may : verdict t (P k) ≡ Allowed) where
-    poll-calm : CalmTable (moves t (P k))
-    poll-calm =
-        poll-moves t k CalmTable (λ f. calm)
-        (λ f two.
+    none-granted : (z : Table) → QuietTable z → settle z .grants ≡ []
+    none-granted z q = ap (λ (z : Settling). z .grants) (settle-none z q)
+
+    carry-grants :
+        registerOf t (awaited (coreOf t (k .0))) (k .0) .flag ≡ false →
+        twoStage (coreOf t (k .0) .state) ≡ true →
+        (n : Ticket) →
+        settle (carrying t (k .0) n) .grants ≡ []
+    carry-grants clear two n =
         let i = poll-in t k s may in
-        carrying-calm t (k .0) (i .0) s (i .1) two (awaited-second t (k .0) two f) (inherited t (coreOf t (k .0))))
-        calm
+        let v = coreOf t (k .0) .second .0 in
+        let place = second-unit t (k .0) (i .0) s (waiting-stands (coreOf t (k .0) .state) (i .1)) two .1 in
+        let calm = carrying-calm t (k .0) (i .0) s (i .1) two (awaited-second t (k .0) two clear) n v place in
+        settle-at-one (carrying t (k .0) n) v place (quiet-elsewhere t v (k .0) (standing n) quiet) ∙
+        ap (won v) (calm-winner (unitOf (carrying t (k .0) n) v) calm)
 
     pub poll-grants : settle (moves t (P k)) .grants ≡ []
-    poll-grants = ap (λ (z : Settling). z .grants) (settle-none (moves t (P k)) poll-calm)
+    poll-grants =
+        poll-moves t k (λ z. settle z .grants ≡ []) (λ f. none-granted _ quiet)
+        (λ f two. carry-grants f two (inherited t (coreOf t (k .0))))
+        (none-granted t quiet)
 
   brief : (step : Step) → verdict t step ≡ Allowed → Brief t (settle (moves t step) .grants)
   brief (R k u) may = enter-brief (u .0) (k .0) _ _ _ (request-in t k s u may .1)

@@ -1,7 +1,7 @@
 -- Every step keeps a table sound: its moves leave it sound but for units without their flag, and settling mends exactly that. A
 -- refused step hands back the same table. The fresh table is sound.
 use Prim.Native.Nat.{ℕ, _<_}
-use mathlib.Core.Bool.{Bool, true, false, cond}
+use mathlib.Core.Bool.{Bool, true, false, cond, not}
 use mathlib.Core.Path.{_≡_, refl, sym, _∙_, ap, ap₂}
 use lib.Dec.{eqb, ltb}
 use lib.ListN.{length, length-replicate, getD-replicate}
@@ -15,7 +15,9 @@ use Rattle.block.specs.Table.{coreOf, unitOf, registerOf, Shaped}
 use Rattle.laws.specs.Claims.{BuiltSound}
 use Rattle.parts.specs.Range.{inRange}
 use Rattle.building.specs.Build.{fresh}
-use Rattle.settling.specs.Line.{flags}
+use Rattle.settling.specs.Line.{flags, inLine}
+use Rattle.settling.specs.Shown.{shownAs, same, showsNext}
+use Rattle.settling.proofs.Picking.{next-nobody}
 use Rattle.block.specs.Settle.{settle}
 use Rattle.block.specs.Sound as S
 use Rattle.block.specs.Sound.{sound}
@@ -34,10 +36,10 @@ use Rattle.building.specs.declared.building.Built.{Built}
 use Rattle.parts.specs.declared.answer.Answer.the-variants.{Done, OutOfRange}
 use Rattle.parts.proofs.Bools.{or-left, or-right}
 use Rattle.parts.proofs.Folds.{none-some, none-count}
-use Rattle.laws.proofs.Almost.{Almost}
+use Rattle.block.proofs.Almost.{Almost}
 use Rattle.block.proofs.Parts.{parts, whole}
 use Rattle.laws.proofs.Settling.{settle-shaped, settle-sound}
-use Rattle.laws.proofs.Kept.{moves-shaped, moves-almost}
+use Rattle.block.proofs.Kept.{moves-shaped, moves-almost}
 
 -- a sound table with its arrays' lengths
 pub record Good (t : Table) : Type 0 where
@@ -97,6 +99,14 @@ module _ (c : Counts) (n : Ticket) where
   register-fresh : (u : ℕ) → u < units → (k : ℕ) → k < cores → registerOf (fresh c n) u k ≡ blank
   register-fresh u h k l = ap (λ (x : LockUnit). registerIn x k) (unit-fresh u h) ∙ getD-replicate cores k blank blank l
 
+  -- nobody is in line, and no flag is set
+  shown-fresh : (u : ℕ) → u < units → showsNext cores (unitOf (fresh c n) u) ≡ true
+  shown-fresh u h =
+      let x = unitOf (fresh c n) u in
+      ap₂ same (ap (λ (y : LockUnit). y .next) (unit-fresh u h))
+      (ap₂ shownAs (next-nobody cores x (λ k l. ap inLine (register-fresh u h k l)))
+      (ap (λ (m : ℕ). not (eqb m 0)) (none-count (λ (k : ℕ). registerIn x k .flag) cores (λ k l. ap (λ (r : Register). r .flag) (register-fresh u h k l)))))
+
   pub fresh-shaped : Shaped (fresh c n)
   fresh-shaped =
       record {
@@ -115,6 +125,7 @@ module _ (c : Counts) (n : Ticket) where
             record {
               agrees = λ k l. ap₂ (λ (d : Core) (r : Register). S.agrees d u r) (core-fresh k l) (register-fresh u h k l);
               oneFlag = blank-unit (unitOf (fresh c n) u) (register-fresh u h);
+              next = shown-fresh u h;
             };
       })
 

@@ -1,10 +1,4 @@
-pub mod Almost
-pub mod Agreeing
 pub mod Settling
-pub mod Moving
-pub mod Columns
-pub mod Kept
-pub mod Oldest
 pub mod Opposite
 pub mod Keeping
 pub mod Granting

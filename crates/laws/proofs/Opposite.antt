@@ -18,9 +18,9 @@ use Rattle.parts.proofs.Bools.{and-both, clash}
 use Rattle.parts.proofs.Folds.{some-at}
 use Rattle.block.proofs.Parts.{parts}
 use Rattle.laws.specs.Claims.{PickingOrdered, InheritingOrdered}
-use Rattle.laws.proofs.Columns.{lent, sound-almost, differ-apart}
-use Rattle.laws.proofs.Kept.{names-two, first-place, recent-window, live-window, two-stage, in-line-waits, unserved-live}
-use Rattle.laws.proofs.Oldest.{shown-apart, shown-recent}
+use Rattle.block.proofs.Columns.{lent, sound-almost, differ-apart}
+use Rattle.block.proofs.Kept.{names-two, first-place, recent-window, live-window, two-stage, in-line-waits, unserved-live}
+use Rattle.block.proofs.Oldest.{shown-apart, shown-recent}
 
 pub picking-ordered : PickingOrdered
 picking-ordered t u i k ok fits place h l d v w =

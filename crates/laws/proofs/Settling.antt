@@ -14,8 +14,11 @@ use Rattle.parts.specs.Fold.{some, count, one}
 use Rattle.parts.specs.State.{stands, twoStage, holdsFirst, holdsBoth}
 use Rattle.parts.specs.Parts.{cores, units, flagged, registerIn}
 use Rattle.block.specs.Table.{coreOf, unitOf, registerOf, withRegister, Shaped}
-use Rattle.block.specs.Settle.{Settling, settleNext, settle}
+use Rattle.block.specs.Settle.{winner, give, Settling, settleNext, settle}
 use Rattle.settling.specs.Line.{flags, inLine}
+use Rattle.settling.specs.Shown.{showsNext}
+use Rattle.settling.specs.declared.line.Best.{Best}
+use Rattle.settling.specs.declared.line.Best.the-variants.{Nobody, Won}
 use Rattle.block.specs.Sound as S
 use Rattle.block.specs.Parts.{Sound}
 use Rattle.block.proofs.Touched.{Calm}
@@ -27,9 +30,10 @@ use Rattle.parts.proofs.Bools.{and-left, and-both, flipped, clash}
 use Rattle.parts.proofs.Folds.{some-at, at-some, none-some, some-none, count-change, count-some, none-count}
 use Rattle.block.proofs.Access.{unit-other, register-same, register-core, register-unit, shaped-register}
 use Rattle.parts.proofs.Along.{same-or-not, to-last, along}
-use Rattle.laws.proofs.Almost.{Almost}
-use Rattle.laws.proofs.Agreeing.{flag-at, in-line}
-use Rattle.laws.proofs.Oldest.{oldest-nobody}
+use Rattle.block.proofs.Almost.{Almost}
+use Rattle.block.proofs.Agreeing.{flag-at, in-line}
+use Rattle.block.proofs.Oldest.{oldest-nobody}
+use Rattle.block.proofs.Showing.{show-register, show-one-flag, show-shaped, show-almost, show-shows}
 use Rattle.block.proofs.Standing.{blank-is}
 use Rattle.block.proofs.Touched.{settleAt}
 use Rattle.block.proofs.Touching.{by-settling, settleAt-unit}
@@ -181,6 +185,7 @@ module _ (t : Table) (u : ℕ) where
   pub settleAt-same : (after .cores ≡ t .cores) × (after .counts ≡ t .counts) × (after .counter ≡ t .counter)
   settleAt-same =
       by-settling t u (λ z. (z .cores ≡ t .cores) × (z .counts ≡ t .counts) × (z .counter ≡ t .counter))
+      (λ z e. e)
       (λ calm. (refl, refl, refl))
       (λ k l e none. (refl, refl, refl))
 
@@ -189,21 +194,31 @@ module _ (t : Table) (u : ℕ) where
 
   module _ (s : Shaped t) (h : u < units) where
     pub settleAt-shaped : Shaped after
-    settleAt-shaped = by-settling t u Shaped (λ calm. s) (λ k l e none. shaped-register t u k _ s h)
+    settleAt-shaped = by-settling t u Shaped (λ z m. show-shaped z u m) (λ calm. s) (λ k l e none. shaped-register t u k _ s h)
 
     -- at every unit, u too
     pub settleAt-keeps : (v j : ℕ) → Kept (registerOf t v j) (registerOf after v j)
     settleAt-keeps v j =
-        by-settling t u (λ z. Kept (registerOf t v j) (registerOf z v j)) (λ calm. kept (registerOf t v j))
+        by-settling t u (λ z. Kept (registerOf t v j) (registerOf z v j)) (λ z m. rw (show-register z u v j) m) (λ calm. kept (registerOf t v j))
         (λ k l e none. given-keeps t u k s h l e none v j)
 
     pub settleAt-almost : Almost t → Almost after
-    settleAt-almost a = by-settling t u Almost (λ calm. a) (λ k l e none. given-almost t u k s h l e none a)
+    settleAt-almost a = by-settling t u Almost (λ z m. show-almost z u m) (λ calm. a) (λ k l e none. given-almost t u k s h l e none a)
 
     pub settleAt-one : Almost t → S.oneFlag (unitOf after u) ≡ true
     settleAt-one a =
-        by-settling t u (λ z. S.oneFlag (unitOf z u) ≡ true) (calm-one t u a h)
+        by-settling t u (λ z. S.oneFlag (unitOf z u) ≡ true) (λ z m. show-one-flag z u u ∙ m) (calm-one t u a h)
         (λ k l e none. given-one t u k s h l e none)
+
+    -- the unit shows who is next
+    pub settleAt-shows : showsNext cores (unitOf after u) ≡ true
+    settleAt-shows =
+        let gave = give t u (winner (unitOf t u)) in
+        show-shows gave u (given-shaped (winner (unitOf t u))) h
+      where
+        given-shaped : (w : Best) → Shaped (give t u w)
+        given-shaped Nobody = s
+        given-shaped (Won k n) = shaped-register t u (k .0) _ s h
 
 -- Every unit
 
@@ -212,6 +227,7 @@ record Mended (n : ℕ) (t : Table) : Type 0 where
   shaped : Shaped t
   almost : Almost t
   ones : (u : ℕ) → u < n → S.oneFlag (unitOf t u) ≡ true
+  shows : (u : ℕ) → u < n → showsNext cores (unitOf t u) ≡ true
 
 module _ (t : Table) where
   abbrev start : Settling
@@ -220,7 +236,7 @@ module _ (t : Table) where
   mended : Shaped t → Almost t → Mended units (settle t .table)
   mended s a =
       along (λ n z. Mended n (z .table)) settleNext start
-      (record { shaped = s; almost = a; ones = λ u h. absurd (not-suc-le-zero h) })
+      (record { shaped = s; almost = a; ones = λ u h. absurd (not-suc-le-zero h); shows = λ u h. absurd (not-suc-le-zero h) })
       units
       (λ n h z m. record {
         shaped = settleAt-shaped (z .table) n (m .shaped) h;
@@ -229,6 +245,10 @@ module _ (t : Table) where
             to-last (λ u. S.oneFlag (unitOf (settleAt (z .table) n .table) u) ≡ true) n
             (λ u l. ap S.oneFlag (settleAt-unit (z .table) n u (λ e. omega arith)) ∙ m .ones u l)
             (settleAt-one (z .table) n (m .shaped) h (m .almost));
+        shows =
+            to-last (λ u. showsNext cores (unitOf (settleAt (z .table) n .table) u) ≡ true) n
+            (λ u l. ap (showsNext cores) (settleAt-unit (z .table) n u (λ e. omega arith)) ∙ m .shows u l)
+            (settleAt-shows (z .table) n (m .shaped) h);
       })
 
   pub settle-shaped : Shaped t → Shaped (settle t .table)
@@ -240,7 +260,7 @@ module _ (t : Table) where
       record {
         counts = m .almost .counts;
         core = m .almost .core;
-        unit = λ u h. record { agrees = m .almost .agrees u h; oneFlag = m .ones u h };
+        unit = λ u h. record { agrees = m .almost .agrees u h; oneFlag = m .ones u h; next = m .shows u h };
       }
 
   abbrev settled : Table

@@ -1,13 +1,14 @@
 -- "The table": registers, units and cores by themselves. Whatever stands past an array reads as blank.
 use mathlib.Core.List.{[]}
 use Prim.Native.Nat.{ℕ}
-use mathlib.Core.Bool.{true, false}
+use mathlib.Core.Bool.{Bool, true, false}
 use lib.ListN.{getD, set, replicate}
 use Rattle.ticket.specs.Kinds.{ticket}
 use Rattle.ticket.specs.declared.kinds.CoreNo.{CoreNo}
 use Rattle.ticket.specs.declared.kinds.Ticket.{Ticket}
 use Rattle.ticket.specs.declared.kinds.UnitNo.{UnitNo}
 use Rattle.parts.specs.declared.kinds.Register.{Register}
+use Rattle.parts.specs.declared.kinds.Next.{Next}
 use Rattle.parts.specs.declared.kinds.LockUnit.{LockUnit}
 use Rattle.parts.specs.declared.kinds.Core.{Core}
 use Rattle.parts.specs.declared.kinds.State.{State}
@@ -46,17 +47,28 @@ idle = record { own = ticket 0; carried = ticket 0; first = unitNo 0; second = u
 abbrev pub core : Ticket → Ticket → UnitNo → UnitNo → State → Core
 core o n f s z = record { own = o; carried = n; first = f; second = s; state = z; fill = Blank }
 
+-- a next in line, by what it shows; and where nobody is in line and no flag is set
+abbrev pub nextInLine : Ticket → CoreNo → Bool → Bool → Next
+nextInLine t k v h = record { ticket = t; core = k; valid = v; held = h; fill = Blank; rest = Blank }
+
+abbrev pub nobody : Next
+nobody = nextInLine (ticket 0) (coreNo 0) false false
+
 -- what stands past the array of units
 abbrev pub absentUnit : LockUnit
-absentUnit = record { registers = [] }
+absentUnit = record { registers = []; next = nobody }
 
 -- no register valid, no flag set
 abbrev pub emptyUnit : LockUnit
-emptyUnit = record { registers = replicate cores blank }
+emptyUnit = record { registers = replicate cores blank; next = nobody }
 
 abbrev pub registerIn : LockUnit → ℕ → Register
 registerIn x k = getD (x .registers) k blank
 
 -- the unit in which the register of core k became r
 abbrev pub registered : LockUnit → ℕ → Register → LockUnit
-registered x k r = record { registers = set (x .registers) k r }
+registered x k r = record { registers = set (x .registers) k r; next = x .next }
+
+-- the unit that shows v as its next in line
+abbrev pub showing : LockUnit → Next → LockUnit
+showing x v = record { registers = x .registers; next = v }

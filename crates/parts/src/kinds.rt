@@ -2,6 +2,7 @@
 //
 // What lies in an array has its fields from wide to narrow and no gap: a table with a gap cannot be
 // copied in blocks.
+use ticket::CoreNo;
 use ticket::Ticket;
 use ticket::UnitNo;
 
@@ -19,9 +20,22 @@ pub struct Register {
     pub flag: bool,
 }
 
-// A lock unit: a register for each core.
+// Who is next in line at a unit, with its ticket, if anyone is (if not, both are 0); and whether a flag of the unit
+// is set, so that a core that enters need look at nothing else. With its last two bytes a unit's size is a multiple of
+// eight, and it is copied in eights.
+pub struct Next {
+    pub ticket: Ticket,
+    pub core: CoreNo,
+    pub valid: bool,
+    pub held: bool,
+    pub fill: Fill,
+    pub rest: Fill,
+}
+
+// A lock unit: a register for each core, and the one that shows the best waiter.
 pub struct LockUnit {
     pub registers: [Register; CORES],
+    pub next: Next,
 }
 
 // Where a core stands.
@@ -40,7 +54,7 @@ pub enum State {
     Away,
 }
 
-// One byte with one value, which makes a core's size even.
+// One byte with one value, which makes a size even.
 pub enum Fill {
     Blank,
 }

@@ -1,7 +1,8 @@
 // Registers, units, cores and counts by themselves; steps and their answers.
 //
 // Entries: `in_range`, `number`, `whose`. Seams, for the crates that plan and work steps: registers, units and cores as
-// they are made (`blank`, `standing`, `flagged`, `empty_unit`, `registered`, `idle`, `core`), and the tests of a state.
+// they are made (`blank`, `standing`, `flagged`, `empty_unit`, `registered`, `next_in_line`, `showing`, `idle`,
+// `core`), and the tests of a state.
 mod answer;
 mod kinds;
 mod made;
@@ -18,6 +19,7 @@ pub use kinds::Core;
 pub use kinds::Counts;
 pub use kinds::Fill;
 pub use kinds::LockUnit;
+pub use kinds::Next;
 pub use kinds::PER_CLASS;
 pub use kinds::Register;
 pub use kinds::State;
@@ -27,7 +29,9 @@ pub use made::core;
 pub use made::empty_unit;
 pub use made::flagged;
 pub use made::idle;
+pub use made::next_in_line;
 pub use made::registered;
+pub use made::showing;
 pub use made::standing;
 pub use range::in_range;
 pub use state::holds;

@@ -3,6 +3,7 @@ use crate::kinds::CORES;
 use crate::kinds::Core;
 use crate::kinds::Fill;
 use crate::kinds::LockUnit;
+use crate::kinds::Next;
 use crate::kinds::Register;
 use crate::kinds::State;
 use ticket::CoreNo;
@@ -10,7 +11,7 @@ use ticket::Ticket;
 use ticket::UnitNo;
 ghost use mathlib.Core.Path.{_≡_};
 ghost use Prim.Native.Nat.{_<_};
-ghost use Rattle.parts.specs.Parts.{cores, blank, standing, flagged, emptyUnit, registered, idle, core};
+ghost use Rattle.parts.specs.Parts.{cores, blank, standing, flagged, nextInLine, emptyUnit, registered, showing, idle, core};
 
 // A register that nobody stands in.
 pub fn blank() -> Register
@@ -46,6 +47,20 @@ pub fn flagged(r: Register) -> Register
     }
 }
 
+// A next in line, by what it shows.
+pub fn next_in_line(ticket: Ticket, core: CoreNo, valid: bool, held: bool) -> Next
+    ensures { λ v. ⌜ v ≡ nextInLine ticket core valid held ⌝ }
+{
+    Next {
+        ticket,
+        core,
+        valid,
+        held,
+        fill: Fill::Blank,
+        rest: Fill::Blank,
+    }
+}
+
 // A unit with no register valid and no flag set.
 pub fn empty_unit() -> LockUnit
     ensures { λ r. ⌜ r ≡ emptyUnit ⌝ }
@@ -53,10 +68,11 @@ pub fn empty_unit() -> LockUnit
     let r = blank();
     LockUnit {
         registers: [r; CORES],
+        next: next_in_line(Ticket(0), CoreNo(0), false, false),
     }
 }
 
-// The unit in which the register of core k became r: the one way in which a unit changes.
+// The unit in which the register of core k became r.
 pub fn registered(x: LockUnit, k: CoreNo, r: Register) -> LockUnit
     requires { ⌜ k .0 < cores ⌝ }
     ensures { λ y. ⌜ y ≡ registered x (k .0) r ⌝ }
@@ -64,6 +80,15 @@ pub fn registered(x: LockUnit, k: CoreNo, r: Register) -> LockUnit
     let i = k.0 as usize;
     let mut y = x;
     y.registers[i] = r;
+    y
+}
+
+// The unit that shows v as its next in line.
+pub fn showing(x: LockUnit, v: Next) -> LockUnit
+    ensures { λ y. ⌜ y ≡ showing x v ⌝ }
+{
+    let mut y = x;
+    y.next = v;
     y
 }
 

@@ -7,9 +7,8 @@ use Rattle.ticket.specs.declared.kinds.CoreNo.{CoreNo}
 use Rattle.ticket.specs.declared.kinds.Ticket.{Ticket}
 use Rattle.ticket.specs.declared.kinds.UnitNo.{UnitNo}
 use Rattle.parts.specs.State.{twoStage}
-use Rattle.parts.specs.Parts.{standing, registerIn, registered}
+use Rattle.parts.specs.Parts.{registerIn}
 use Rattle.parts.specs.Answer.{packed}
-use Rattle.parts.specs.declared.kinds.Register.{Register}
 use Rattle.parts.specs.declared.kinds.LockUnit.{LockUnit}
 use Rattle.parts.specs.declared.kinds.Core.{Core}
 use Rattle.parts.specs.declared.kinds.Counts.{Counts}
@@ -21,8 +20,8 @@ use Rattle.places.specs.Places.{corePlace}
 use Rattle.refusals.specs.Judge.{judge}
 use Rattle.refusals.specs.declared.verdict.Verdict.{Verdict}
 use Rattle.refusals.specs.declared.verdict.Verdict.the-variants.{Allowed, Refused}
-use Rattle.settling.specs.Line.{next, won}
-use Rattle.settling.specs.Settle.{enter, leave}
+use Rattle.settling.specs.Line.{stored, won}
+use Rattle.settling.specs.Settle.{enter, leave, carry}
 use Rattle.settling.specs.declared.settle.Settled.{Settled}
 use Rattle.effects.specs.Effect.{stepEffect}
 use Rattle.effects.specs.declared.kinds.Move.{Move}
@@ -31,16 +30,16 @@ use Rattle.effects.specs.declared.kinds.Effect.{Effect}
 use Rattle.plan.specs.Plan.{refuse, withUnits, entered, givenUp, carried, carryOut, decided, planStep}
 use Rattle.plan.specs.declared.planning.Plan.{Plan}
 
-module _ (e : Effect) (n : ℕ) (k : CoreNo) (x y : LockUnit) (g : Grants) (p : Plan) where
+module _ (e : Effect) (k : CoreNo) (x y : LockUnit) (g : Grants) (p : Plan) where
   pub enters :
       (u : UnitNo) (t : Ticket) (s : Settled) →
-      s ≡ enter n x k t →
+      s ≡ enter x k t →
       g ≡ packed (won (u .0) (s .winner)) →
       p ≡ withUnits e (s .unit) y g →
-      p ≡ entered e n k u t x y
+      p ≡ entered e k u t x y
   enters u t s es eg ep = ep ∙ rw (eg, es)
 
-  module _ (c : Core) (s : Settled) (two : Bool) (es : s ≡ leave n x k) (says : two ≡ twoStage (c .state)) where
+  module _ (n : ℕ) (c : Core) (s : Settled) (two : Bool) (es : s ≡ leave n x k) (says : two ≡ twoStage (c .state)) where
     pub frees-two :
         (z : Settled) →
         two ≡ true →
@@ -62,17 +61,16 @@ module _ (e : Effect) (n : ℕ) (k : CoreNo) (c : Core) (x y : LockUnit) (p : Pl
   pub stays : e .does ≡ Stay → p ≡ withUnits e x y None → p ≡ carryOut e n k c x y
   stays = by-move Stay
 
-  pub enters-by : (u : UnitNo) (t : Ticket) → e .does ≡ Enter u t → p ≡ entered e n k u t x y → p ≡ carryOut e n k c x y
+  pub enters-by : (u : UnitNo) (t : Ticket) → e .does ≡ Enter u t → p ≡ entered e k u t x y → p ≡ carryOut e n k c x y
   enters-by u t = by-move (Enter u t)
 
   pub carries-by :
-      (t : Ticket) (r : Register) (z : LockUnit) →
+      (t : Ticket) (z : LockUnit) →
       e .does ≡ Carry t →
-      r ≡ standing t →
-      z ≡ registered y (k .0) r →
+      z ≡ carry n y k t →
       p ≡ withUnits e x z None →
       p ≡ carryOut e n k c x y
-  carries-by t r z is er ez so = by-move (Carry t) is (so ∙ rw (ez, er))
+  carries-by t z is ez so = by-move (Carry t) is (so ∙ rw ez)
 
   pub gives-up : e .does ≡ GiveUp → p ≡ givenUp e n k c x y → p ≡ carryOut e n k c x y
   gives-up = by-move GiveUp
@@ -82,7 +80,7 @@ module _
     (s : Step) (n : Counts) (m : Ticket) (cs : List Core) (c : Core) (x y : LockUnit) (v : Verdict) (p : Plan) (says : v ≡ judge s n m cs c)
   where
     abbrev effect-at : CoreNo → Effect
-    effect-at k = stepEffect s m c (registerIn y (k .0) .flag) (next (n .cores) x)
+    effect-at k = stepEffect s m c (registerIn y (k .0) .flag) (stored x)
 
     abbrev by : Verdict → Plan
     by z = decided z m c x y (carryOut (effect-at (corePlace s)) (n .cores) (corePlace s) c x y)

@@ -8,7 +8,7 @@ use Rattle.ticket.specs.declared.kinds.CoreNo.{CoreNo}
 use Rattle.ticket.specs.declared.kinds.Ticket.{Ticket}
 use Rattle.ticket.specs.declared.kinds.UnitNo.{UnitNo}
 use Rattle.parts.specs.State.{twoStage}
-use Rattle.parts.specs.Parts.{standing, registerIn, registered}
+use Rattle.parts.specs.Parts.{registerIn}
 use Rattle.parts.specs.Answer.{packed}
 use Rattle.parts.specs.declared.kinds.LockUnit.{LockUnit}
 use Rattle.parts.specs.declared.kinds.Core.{Core}
@@ -21,8 +21,8 @@ use Rattle.places.specs.Places.{corePlace}
 use Rattle.refusals.specs.Judge.{judge}
 use Rattle.refusals.specs.declared.verdict.Verdict.{Verdict}
 use Rattle.refusals.specs.declared.verdict.Verdict.the-variants.{Allowed, Refused}
-use Rattle.settling.specs.Line.{next, won}
-use Rattle.settling.specs.Settle.{enter, leave}
+use Rattle.settling.specs.Line.{stored, won}
+use Rattle.settling.specs.Settle.{enter, leave, carry}
 use Rattle.effects.specs.Effect.{stepEffect}
 use Rattle.effects.specs.declared.kinds.Move.{Move}
 use Rattle.effects.specs.declared.kinds.Move.the-variants.{Stay, Enter, Carry, GiveUp}
@@ -39,8 +39,8 @@ withUnits e x y g =
     record { first = x; second = y; core = e .core; counter = e .counter; ticket = e .ticket; grants = g; answer = e .answer }
 
 -- core k enters unit u, which is x, with the ticket t
-abbrev pub entered : Effect → ℕ → CoreNo → UnitNo → Ticket → LockUnit → LockUnit → Plan
-entered e n k u t x y = let s = enter n x k t in withUnits e (s .unit) y (packed (won (u .0) (s .winner)))
+abbrev pub entered : Effect → CoreNo → UnitNo → Ticket → LockUnit → LockUnit → Plan
+entered e k u t x y = let s = enter x k t in withUnits e (s .unit) y (packed (won (u .0) (s .winner)))
 
 -- core k, which is c, gives up its registers at its units
 abbrev pub givenUp : Effect → ℕ → CoreNo → Core → LockUnit → LockUnit → Plan
@@ -54,8 +54,8 @@ givenUp e n k c x y =
 -- what core k, which is c, does
 abbrev pub carried : Move → Effect → ℕ → CoreNo → Core → LockUnit → LockUnit → Plan
 carried Stay e n k c x y = withUnits e x y None
-carried (Enter u t) e n k c x y = entered e n k u t x y
-carried (Carry t) e n k c x y = withUnits e x (registered y (k .0) (standing t)) None
+carried (Enter u t) e n k c x y = entered e k u t x y
+carried (Carry t) e n k c x y = withUnits e x (carry n y k t) None
 carried GiveUp e n k c x y = givenUp e n k c x y
 
 abbrev pub carryOut : Effect → ℕ → CoreNo → Core → LockUnit → LockUnit → Plan
@@ -70,4 +70,4 @@ decided (Refused a) m c x y p = refuse a m c x y
 unfoldable pub planStep : Step → Counts → Ticket → List Core → Core → LockUnit → LockUnit → Plan
 planStep s n m cs c x y =
     let k = corePlace s in
-    decided (judge s n m cs c) m c x y (carryOut (stepEffect s m c (registerIn y (k .0) .flag) (next (n .cores) x)) (n .cores) k c x y)
+    decided (judge s n m cs c) m c x y (carryOut (stepEffect s m c (registerIn y (k .0) .flag) (stored x)) (n .cores) k c x y)

@@ -12,12 +12,11 @@ use parts::Counts;
 use parts::Grants;
 use parts::LockUnit;
 use parts::Step;
-use parts::registered;
-use parts::standing;
 use parts::two_stage;
 use places::core_place;
 use refusals::Verdict;
 use refusals::judge;
+use settling::carry;
 use settling::enter;
 use settling::leave;
 use ticket::CoreNo;
@@ -75,11 +74,11 @@ fn with_units(e: Effect, x: LockUnit, y: LockUnit, grants: Grants) -> Plan
 }
 
 // Core k enters unit u, which is x, with the ticket t.
-fn entered(e: Effect, n: u16, k: CoreNo, u: UnitNo, t: Ticket, x: LockUnit, y: LockUnit) -> Plan
-    requires { ⌜ (n ≤ cores) × (k .0 < cores) ⌝ }
-    ensures { λ p. ⌜ p ≡ entered e n k u t x y ⌝ }
+fn entered(e: Effect, k: CoreNo, u: UnitNo, t: Ticket, x: LockUnit, y: LockUnit) -> Plan
+    requires { ⌜ k .0 < cores ⌝ }
+    ensures { λ p. ⌜ p ≡ entered e k u t x y ⌝ }
 {
-    let s = enter(n, x, k, t);
+    let s = enter(x, k, t);
     let unit = s.unit;
     let w = s.winner;
     with_units(e, unit, y, one_grant(u, w))
@@ -114,8 +113,8 @@ fn carry_out(e: Effect, n: u16, k: CoreNo, c: Core, x: LockUnit, y: LockUnit) ->
     let d = e.does;
     match d {
         Move::Stay => with_units(e, x, y, Grants::None),
-        Move::Enter(u, t) => entered(e, n, k, u, t, x, y),
-        Move::Carry(t) => with_units(e, x, registered(y, k, standing(t)), Grants::None),
+        Move::Enter(u, t) => entered(e, k, u, t, x, y),
+        Move::Carry(t) => with_units(e, x, carry(n, y, k, t), Grants::None),
         Move::GiveUp => given_up(e, n, k, c, x, y),
     }
 }
@@ -138,7 +137,7 @@ pub fn plan_step(
         Verdict::Allowed => {
             let n = counts.cores;
             let k = core_place(s);
-            let e = step_effect(s, n, counter, k, c, x, y);
+            let e = step_effect(s, counter, k, c, x, y);
             carry_out(e, n, k, c, x, y)
         }
     }

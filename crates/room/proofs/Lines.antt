@@ -51,11 +51,11 @@ use Rattle.block.proofs.Answering.{poll-in}
 use Rattle.block.proofs.Parts.{parts}
 use Rattle.block.proofs.Standing.{first-in}
 use Rattle.block.proofs.Stepping.{inherited, poll-cases}
-use Rattle.laws.proofs.Agreeing.{agreeing}
+use Rattle.block.proofs.Agreeing.{agreeing}
 use Rattle.laws.proofs.Claims.{on-sound}
 use Rattle.laws.proofs.Granting.{accepted, refused, grants-exactly, two-classes}
 use Rattle.laws.proofs.Keeping.{fresh-shaped}
-use Rattle.laws.proofs.Kept.{two-stage, moves-shaped, moves-moved}
+use Rattle.block.proofs.Kept.{two-stage, moves-shaped, moves-moved}
 use Rattle.laws.proofs.Settling.{settle-shaped, settle-same}
 use Rattle.expected.proofs.Lengths.{Placed, expected-most}
 

@@ -2,4 +2,5 @@ pub mod Pairing
 pub mod Beaten
 pub mod Lining
 pub mod Picking
+pub mod NextInLine
 pub mod Determined

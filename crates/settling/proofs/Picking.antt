@@ -121,6 +121,14 @@ module _ (n : ℕ) (x : LockUnit) where
           let e = one-oldest (j .0) k (p .2) h (p .0) o in
           ap₂ Won (ap coreNo e) (sym (p .1) ∙ ap (λ (i : ℕ). registerIn x i .ticket) e)
 
+  -- and who is next, told by the registers
+  pub next-over :
+      (k : CoreNo) (t : Ticket) → k .0 < n → Lined x (k .0) → registerIn x (k .0) .ticket ≡ t →
+      ((j : ℕ) → j < n → j ≢ k .0 → Lined x j → compare (t .0) (at x j) ≡ Older) →
+      next n x ≡ Won k t
+  next-over k t h line is over =
+      next-is (k .0) h (over-oldest (k .0) line (λ j l d q. ap (λ (s : Ticket). compare (s .0) (at x j)) is ∙ over j l d q)) ∙ ap (Won k) is
+
   pub next-within : n ≤ cores → Within (next n x)
   next-within few = go (next n x) picked
     where

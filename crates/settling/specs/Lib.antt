@@ -1,4 +1,5 @@
 pub mod Line
 pub mod Pairs
 pub mod Claims
+pub mod Shown
 pub mod Settle

@@ -3,7 +3,7 @@
 use Prim.Native.Nat.{ℕ, _<_}
 use mathlib.Core.Bool.{Bool, true, false, cond, _&&_, _||_, not}
 use mathlib.Core.List.{List, [], _∷_}
-use lib.Dec.{eqb}
+use lib.Dec.{eqb, ltb}
 use Rattle.ticket.specs.Kinds.{grant}
 use Rattle.ticket.specs.Order.{compare}
 use Rattle.ticket.specs.declared.kinds.Grant.{Grant}
@@ -42,6 +42,10 @@ chosen x p k best = cond (p k) (Won (coreNo k) (registerIn x k .ticket)) best
 -- that core, and its ticket: it is one alone (`one-oldest`)
 abbrev pub next : ℕ → LockUnit → Best
 next n x = upTo (chosen x (oldest n x)) n Nobody
+
+-- who a unit shows as its next in line; a core that no table has is nobody
+abbrev pub stored : LockUnit → Best
+stored x = cond (x .next .valid && ltb (x .next .core .0) cores) (Won (x .next .core) (x .next .ticket)) Nobody
 
 -- a core that may win is one of the table's
 abbrev pub Within : Best → Type 0

@@ -1,13 +1,20 @@
-// Settling one unit: who is next in line at it, and who gets its flag when a core enters or leaves it. Only the
-// registers of the first n cores are looked at: those of a sound table.
+// Settling one unit: who is next in line at it, which it stores, and who gets its flag when a core enters or leaves it.
+// Only the registers of the first n cores are looked at: those of a sound table.
 //
-// Seams, for the effect and the plan of a step: `next_of`, `enter`, `leave`.
+// Seams: `next_of`, `next_shown`, `shown` and `shows_next`, by the registers; `stored`, `enter`, `leave` and `carry`, by what a
+// unit stores, for the effect and the plan of a step.
 mod line;
+mod next;
 mod pairs;
 mod settle;
 
 pub use line::Best;
 pub use line::next_of;
+pub use line::stored;
+pub use next::next_shown;
+pub use next::shown;
+pub use next::shows_next;
 pub use settle::Settled;
+pub use settle::carry;
 pub use settle::enter;
 pub use settle::leave;

@@ -12,7 +12,7 @@ ghost use mathlib.Core.Bool.{cond};
 ghost use mathlib.Core.Path.{_≡_};
 ghost use Prim.Native.Nat.{_≤_};
 ghost use Rattle.parts.specs.Parts.{cores};
-ghost use Rattle.settling.specs.Line.{inLine, next};
+ghost use Rattle.settling.specs.Line.{inLine, next, stored};
 ghost use Rattle.settling.specs.Pairs.{lined, unbeaten};
 ghost use Rattle.settling.specs.declared.line.Best.the-variants.{Won};
 
@@ -20,6 +20,21 @@ ghost use Rattle.settling.specs.declared.line.Best.the-variants.{Won};
 pub enum Best {
     Nobody,
     Won(CoreNo, Ticket),
+}
+
+// Seam: who a unit shows as its next in line. A core that no table has is nobody.
+pub fn stored(x: LockUnit) -> Best
+    ensures { λ r. ⌜ r ≡ stored x ⌝ }
+{
+    let v = x.next;
+    let t = v.ticket;
+    let k = v.core;
+    let i = k.0 as usize;
+    if v.valid & (i < CORES) {
+        Best::Won(k, t)
+    } else {
+        Best::Nobody
+    }
 }
 
 // Whether a register stands in line: valid, with its flag clear.

@@ -35,7 +35,7 @@ pub(crate) fn joined(w: Line, k: usize) -> Line
 }
 
 // Of Same and Opposite, which a sound table does not meet, neither is older.
-fn is_older(c: Comparison) -> bool
+pub(crate) fn is_older(c: Comparison) -> bool
     ensures { λ r. ⌜ r ≡ isOlder c ⌝ }
 {
     match c {
@@ -46,7 +46,7 @@ fn is_older(c: Comparison) -> bool
     }
 }
 
-fn is_younger(c: Comparison) -> bool
+pub(crate) fn is_younger(c: Comparison) -> bool
     ensures { λ r. ⌜ r ≡ isYounger c ⌝ }
 {
     match c {

@@ -11,6 +11,7 @@ use Rattle.parts.specs.Parts.{cores, idle, registerIn}
 use Rattle.parts.specs.declared.kinds.Register.{Register}
 use Rattle.parts.specs.declared.kinds.LockUnit.{LockUnit}
 use Rattle.parts.specs.declared.kinds.Core.{Core}
+use Rattle.settling.specs.Shown.{showsNext}
 
 -- "an invalid register has ticket 0 and no flag"
 abbrev pub isBlank : Register → Bool
@@ -35,6 +36,6 @@ anyValid x = some (λ (k : ℕ). registerIn x k .valid) cores
 abbrev pub oneFlag : LockUnit → Bool
 oneFlag x = eqb (count (λ (k : ℕ). registerIn x k .flag) cores) (one (anyValid x))
 
--- the clauses of unit u, which is x
+-- the clauses of unit u, which is x; its next in line is that of its registers (document 02, wish 7)
 unfoldable pub unitSound : List Core → ℕ → LockUnit → Bool
-unitSound all u x = every (λ (k : ℕ). agrees (getD all k idle) u (registerIn x k)) cores && oneFlag x
+unitSound all u x = every (λ (k : ℕ). agrees (getD all k idle) u (registerIn x k)) cores && oneFlag x && showsNext cores x

@@ -7,6 +7,7 @@ use parts::holds_both;
 use parts::holds_first;
 use parts::stands;
 use parts::two_stage;
+use settling::shows_next;
 use ticket::Ticket;
 use ticket::UnitNo;
 ghost use mathlib.Core.Path.{_≡_};
@@ -19,7 +20,8 @@ ghost use Rattle.soundness.specs.Agreement.{unitSound, agrees, shows, is
 pub fn unit_sound(all: [Core; CORES], u: UnitNo, x: LockUnit) -> bool
     ensures { λ r. ⌜ r ≡ unitSound all (u .0) x ⌝ }
 {
-    agree(all, u, x) & one_flag(x)
+    let n = CORES as u16;
+    agree(all, u, x) & one_flag(x) & shows_next(n, x)
 }
 
 // The registers of unit u, which is x, agree with every core's state.

@@ -5,7 +5,7 @@ use mathlib.Core.Path.{_≡_, sym, _∙_}
 use Rattle.ticket.specs.declared.kinds.Ticket.{Ticket}
 use Rattle.parts.specs.State.{twoStage}
 use Rattle.parts.specs.declared.kinds.Core.{Core}
-use Rattle.settling.specs.Line.{next}
+use Rattle.settling.specs.Line.{stored}
 use Rattle.settling.specs.declared.line.Best.{Best}
 use Rattle.effects.specs.Effect.{hold, heir, inherit, wait, poll}
 use Rattle.effects.specs.declared.kinds.Effect.{Effect}
@@ -38,13 +38,13 @@ hold-requires c κs = search needs
 returns : tie.Need-returns
 returns c =
     let a = c .before .before .before .before .before .args in
-    holds (a .counter) (a .c) _ (next (a .n) (a .x)) _ (c .before .if1 .taken) (c .hold .ensures)
+    holds (a .counter) (a .c) _ (stored (a .x)) _ (c .before .if1 .taken) (c .hold .ensures)
 
 two-stage-requires : tie.Need-two-stage-requires
 two-stage-requires c κs = search needs
 
-next-of-requires : tie.Need-next-of-requires
-next-of-requires c κs = search needs
+stored-requires : tie.Need-stored-requires
+stored-requires c κs = search needs
 
 heir-requires : tie.Need-heir-requires
 heir-requires c κs = search needs
@@ -55,8 +55,8 @@ inherit-requires c κs = search needs
 returns-2 : tie.Need-returns-2
 returns-2 c =
     let a = c .before .before .before .before .before .before .before .before .before .args in
-    inherits (a .counter) (a .c) _ (next (a .n) (a .x)) _ _ (c .before .before .before .before .two-stage .ensures) (c .before .before .before .before .before .if1 .left) _ _
-    (c .before .before .before .if2 .taken) (c .before .before .next-of .ensures) (c .before .heir .ensures) (c .inherit .ensures)
+    inherits (a .counter) (a .c) _ (stored (a .x)) _ _ (c .before .before .before .before .two-stage .ensures) (c .before .before .before .before .before .if1 .left) _ _
+    (c .before .before .before .if2 .taken) (c .before .before .stored .ensures) (c .before .heir .ensures) (c .inherit .ensures)
 
 wait-requires : tie.Need-wait-requires
 wait-requires c κs = search needs
@@ -64,7 +64,7 @@ wait-requires c κs = search needs
 returns-3 : tie.Need-returns-3
 returns-3 c =
     let a = c .before .before .before .before .before .before .before .args in
-    waits (a .counter) (a .c) _ (next (a .n) (a .x)) _ _ (c .before .before .two-stage .ensures) (c .before .before .before .if1 .left) (c .before .if2 .left) (c .wait .ensures)
+    waits (a .counter) (a .c) _ (stored (a .x)) _ _ (c .before .before .two-stage .ensures) (c .before .before .before .if1 .left) (c .before .if2 .left) (c .wait .ensures)
 
 pub poll-spec : {M : Type 1} → statement M
 poll-spec =
@@ -76,7 +76,7 @@ poll-spec =
     hold-requires
     returns
     two-stage-requires
-    next-of-requires
+    stored-requires
     heir-requires
     inherit-requires
     returns-2

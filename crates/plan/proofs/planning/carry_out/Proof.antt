@@ -19,11 +19,8 @@ entered-requires c κs = search needs
 enum-known-d-2 : tie.Need-enum-known-d-2
 enum-known-d-2 c = search needs
 
-standing-requires : tie.Need-standing-requires
-standing-requires c κs = search needs
-
-registered-requires : tie.Need-registered-requires
-registered-requires c κs = search needs
+carry-requires : tie.Need-carry-requires
+carry-requires c κs = search needs
 
 with-units-requires-2 : tie.Need-with-units-requires-2
 with-units-requires-2 c κs = search needs
@@ -46,9 +43,9 @@ returns-2 c =
 
 returns-3 : tie.Need-returns-3
 returns-3 c =
-    let a = c .before .before .before .before .before .before .args in
-    carries-by (a .e) (a .n) (a .k) (a .c) (a .x) (a .y) _ _ _ _ (c .before .before .before .before .d2 .given .1) (c .before .before .standing .ensures)
-    (c .before .registered .ensures) (c .with-units2 .ensures)
+    let a = c .before .before .before .before .before .args in
+    carries-by (a .e) (a .n) (a .k) (a .c) (a .x) (a .y) _ _ _ (c .before .before .before .d2 .given .1) (c .before .carry .ensures)
+    (c .with-units2 .ensures)
 
 returns-4 : tie.Need-returns-4
 returns-4 c =
@@ -64,8 +61,7 @@ carry-out-spec =
     enum-known-d
     entered-requires
     enum-known-d-2
-    standing-requires
-    registered-requires
+    carry-requires
     with-units-requires-2
     enum-told-2
     given-up-requires

@@ -16,7 +16,7 @@ with-units-requires c κs = search needs
 returns : tie.Need-returns
 returns c =
     let a = c .before .before .before .before .args in
-    enters (a .e) (a .n) (a .k) (a .x) (a .y) _ _ (a .u) (a .t) _ (c .before .before .before .enter .ensures) (c .before .one-grant .ensures) (c .with-units .ensures)
+    enters (a .e) (a .k) (a .x) (a .y) _ _ (a .u) (a .t) _ (c .before .before .before .enter .ensures) (c .before .one-grant .ensures) (c .with-units .ensures)
 
 pub entered-spec : {M : Type 1} → statement M
 entered-spec = tie.close (tie.spec enter-requires one-grant-requires with-units-requires returns)

@@ -28,14 +28,14 @@ with-units-requires-2 c κs = search needs
 returns : tie.Need-returns
 returns c =
     let a = c .before .before .before .before .before .before .before .before .before .before .args in
-    frees-two (a .e) (a .n) (a .k) (a .x) (a .y) _ _ (a .c) _ _ (c .before .before .before .before .before .before .before .leave .ensures)
+    frees-two (a .e) (a .k) (a .x) (a .y) _ _ (a .n) (a .c) _ _ (c .before .before .before .before .before .before .before .leave .ensures)
     (c .before .before .before .before .before .two-stage .ensures) _ (c .before .before .before .before .if1 .taken)
     (c .before .before .before .leave2 .ensures) (c .before .two-grants .ensures) (c .with-units .ensures)
 
 returns-2 : tie.Need-returns-2
 returns-2 c =
     let a = c .before .before .before .before .before .before .before .before .args in
-    frees-one (a .e) (a .n) (a .k) (a .x) (a .y) _ _ (a .c) _ _ (c .before .before .before .before .before .leave .ensures)
+    frees-one (a .e) (a .k) (a .x) (a .y) _ _ (a .n) (a .c) _ _ (c .before .before .before .before .before .leave .ensures)
     (c .before .before .before .two-stage .ensures) (c .before .before .if1 .left) (c .before .one-grant .ensures) (c .with-units2 .ensures)
 
 pub given-up-spec : {M : Type 1} → statement M

@@ -30,7 +30,7 @@ core-place-requires : tie.Need-core-place-requires
 core-place-requires c κs = search needs
 
 step-effect-requires : tie.Need-step-effect-requires
-step-effect-requires c κs = (search needs, in-cores (c .before .before .before .before .args .s) _ (c .core-place .ensures))
+step-effect-requires c κs = in-cores (c .before .before .before .before .args .s) _ (c .core-place .ensures)
 
 carry-out-requires : tie.Need-carry-out-requires
 carry-out-requires c κs = (search needs, in-cores (c .before .before .before .before .before .args .s) _ (c .before .core-place .ensures))

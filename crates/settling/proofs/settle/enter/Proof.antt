@@ -1,77 +1,87 @@
--- `settling::settle::enter` meets its contract: the same two cases, with the test as `free` gives it.
+-- `settling::settle::enter` meets its contract: the same two cases, by whether the unit says that it has a flag set.
 use borrow.Author.Needs.{needs}
-use Prim.Native.Nat.{ℕ}
-use mathlib.Core.Bool.{Bool, true, false}
-use mathlib.Core.Path.{_≡_, sym, _∙_}
-use lib.Dec.{eqb}
+use mathlib.Core.Bool.{true, false}
+use mathlib.Core.Path.{_≡_}
 use Rattle.ticket.specs.declared.kinds.CoreNo.{CoreNo}
 use Rattle.ticket.specs.declared.kinds.Ticket.{Ticket}
 use Rattle.parts.specs.Parts.{standing, flagged, registered}
 use Rattle.parts.specs.declared.kinds.Register.{Register}
 use Rattle.parts.specs.declared.kinds.LockUnit.{LockUnit}
-use Rattle.settling.specs.Line.{flags}
-use Rattle.settling.specs.Settle.{enter}
+use Rattle.settling.specs.Line.{stored}
+use Rattle.settling.specs.Settle.{lining, compared, enter}
+use Rattle.settling.specs.declared.line.Best.{Best}
 use Rattle.settling.specs.declared.line.Best.the-variants.{Nobody, Won}
 use Rattle.settling.specs.declared.settle.Settled.{Settled}
 use Rattle.settling.proofs.settle.enter.Statement.{statement}
 use Rattle.settling.proofs.settle.enter.Tie as tie
 
-module _
-    (n : ℕ)
-    (x y : LockUnit)
-    (k : CoreNo)
-    (t : Ticket)
-    (r : Register)
-    (b : Bool)
-    (stands : r ≡ standing t)
-    (says : b ≡ eqb (flags n x) 0)
-  where
-    owns :
-        (q : Register) →
-        b ≡ true →
-        q ≡ flagged r →
-        y ≡ registered x (k .0) q →
-        _≡_ {A = Settled} (record { unit = y; winner = Won k t }) (enter n x k t)
-    owns q e eq ey = rw (sym says ∙ e, ey, eq, stands)
+module _ (x y z : LockUnit) (k : CoreNo) (t : Ticket) (r : Register) (stands : r ≡ standing t) where
+  joins :
+      (s b : Best) →
+      x .next .held ≡ true →
+      s ≡ stored x →
+      b ≡ compared s k t →
+      y ≡ registered x (k .0) r →
+      z ≡ lining y b →
+      _≡_ {A = Settled} (record { unit = z; winner = Nobody }) (enter x k t)
+  joins s b e es eb ey ez = rw (e, ez, ey, eb, es, stands)
 
-    lines-up : b ≡ false → y ≡ registered x (k .0) r → _≡_ {A = Settled} (record { unit = y; winner = Nobody }) (enter n x k t)
-    lines-up e ey = rw (sym says ∙ e, ey, stands)
+  owns :
+      (q : Register) →
+      x .next .held ≡ false →
+      q ≡ flagged r →
+      y ≡ registered x (k .0) q →
+      z ≡ lining y Nobody →
+      _≡_ {A = Settled} (record { unit = z; winner = Won k t }) (enter x k t)
+  owns q e eq ey ez = rw (e, ez, ey, eq, stands)
 
 standing-requires : tie.Need-standing-requires
 standing-requires c κs = search needs
 
-free-requires : tie.Need-free-requires
-free-requires c κs = search needs
+stored-requires : tie.Need-stored-requires
+stored-requires c κs = search needs
 
-flagged-requires : tie.Need-flagged-requires
-flagged-requires c κs = search needs
+compared-requires : tie.Need-compared-requires
+compared-requires c κs = search needs
 
 registered-requires : tie.Need-registered-requires
 registered-requires c κs = search needs
 
+lining-requires : tie.Need-lining-requires
+lining-requires c κs = search needs
+
+flagged-requires : tie.Need-flagged-requires
+flagged-requires c κs = search needs
+
 registered-requires-2 : tie.Need-registered-requires-2
 registered-requires-2 c κs = search needs
 
+lining-requires-2 : tie.Need-lining-requires-2
+lining-requires-2 c κs = search needs
+
 returns : tie.Need-returns
 returns c =
-    let a = c .before .before .before .before .before .args in
-    owns (a .n) (a .x) _ (a .k) (a .t) _ _ (c .before .before .before .before .standing .ensures) (c .before .before .before .free .ensures) _
-    (c .before .before .if1 .taken) (c .before .flagged .ensures) (c .registered .ensures)
+    let a = c .before .before .before .before .before .before .before .args in
+    joins (a .x) _ _ (a .k) (a .t) _ (c .before .before .before .before .before .before .standing .ensures) _ _ (c .before .before .before .before .if1 .taken) (c .before .before .before .stored .ensures) (c .before .before .compared .ensures)
+    (c .before .registered .ensures) (c .lining .ensures)
 
 returns-2 : tie.Need-returns-2
 returns-2 c =
-    let a = c .before .before .before .before .args in
-    lines-up (a .n) (a .x) _ (a .k) (a .t) _ _ (c .before .before .before .standing .ensures) (c .before .before .free .ensures)
-    (c .before .if1 .left) (c .registered2 .ensures)
+    let a = c .before .before .before .before .before .before .args in
+    owns (a .x) _ _ (a .k) (a .t) _ (c .before .before .before .before .before .standing .ensures) _ (c .before .before .before .if1 .left) (c .before .before .flagged .ensures) (c .before .registered2 .ensures)
+    (c .lining2 .ensures)
 
 pub enter-spec : {M : Type 1} → statement M
 enter-spec =
     tie.close
     (tie.spec
     standing-requires
-    free-requires
-    flagged-requires
+    stored-requires
+    compared-requires
     registered-requires
+    lining-requires
+    flagged-requires
     registered-requires-2
+    lining-requires-2
     returns
     returns-2)

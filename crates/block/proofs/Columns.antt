@@ -27,14 +27,14 @@ use Rattle.parts.specs.declared.answer.Answer.the-variants.{Done}
 use Rattle.effects.specs.Effect.{makes}
 use Rattle.effects.specs.declared.kinds.Move.{Move}
 use Rattle.effects.specs.declared.kinds.Effect.{Effect}
 use Rattle.block.specs.Steps.{affected}
 use Rattle.block.specs.declared.table.Table.{Table}
 use Rattle.parts.proofs.Bools.{and-left, and-right, and-both, or-left, or-right, clash}
 use Rattle.parts.proofs.Folds.{some-at, at-some, count-change}
 use Rattle.parts.proofs.Along.{same-or-not}
 use Rattle.parts.proofs.Ranging.{cores-few}
-use Rattle.laws.proofs.Almost.{Almost}
-use Rattle.laws.proofs.Moving.{Moved, affected-moved, shown, affected-shown, shown-flag}
+use Rattle.block.proofs.Almost.{Almost}
+use Rattle.block.proofs.Moving.{Moved, affected-moved, shown, affected-shown, shown-flag}
 
 -- two cores that are live have own tickets that do not compare the same
 abbrev pub Apart : Core → Core → Type 0

@@ -15,23 +15,23 @@ use Rattle.ticket.specs.declared.order.Comparison.the-variants.{Older, Same}
 use Rattle.parts.specs.Fold.{some}
 use Rattle.parts.specs.State.{isIdle, stands, twoStage, unserved}
 use Rattle.parts.specs.Parts.{cores, units}
 use Rattle.block.specs.Table.{coreOf, unitOf, registerOf}
 use Rattle.settling.specs.Line.{inLine, next}
 use Rattle.block.specs.Sound as S
 use Rattle.block.specs.Parts.{Sound}
 use Rattle.parts.specs.declared.kinds.Core.{Core}
 use Rattle.parts.specs.declared.kinds.State.{State}
 use Rattle.parts.specs.declared.kinds.State.the-variants.{Idle, Waiting, Holding, WaitingSecond, HoldingBoth, Away}
 use Rattle.block.specs.declared.table.Table.{Table}
 use Rattle.settling.specs.declared.line.Best.the-variants.{Nobody, Won}
 use Rattle.parts.proofs.Bools.{and-left, or-cases, clash}
 use Rattle.parts.proofs.Folds.{some-at, count-unique}
 use Rattle.parts.proofs.Along.{same-or-not}
-use Rattle.laws.proofs.Almost.{Almost}
-use Rattle.laws.proofs.Agreeing.{AtFirst, AtSecond, valid-at}
+use Rattle.block.proofs.Almost.{Almost}
+use Rattle.block.proofs.Agreeing.{AtFirst, AtSecond, valid-at}
 use Rattle.settling.proofs.Picking.{next-won, nobody-next, next-nobody, next-oldest}
-use Rattle.laws.proofs.Columns.{Lends, lent, differ-apart, sound-almost}
-use Rattle.laws.proofs.Kept.{names-two, recent-window, two-stage, first-flag, first-place, unserved-live}
+use Rattle.block.proofs.Columns.{Lends, lent, differ-apart, sound-almost}
+use Rattle.block.proofs.Kept.{names-two, recent-window, two-stage, first-flag, first-place, unserved-live}
 
 -- own tickets fit sixteen bits, as those of every table that a program holds
 pub record Fitting (t : Table) : Type 0 where

@@ -32,24 +32,24 @@ use Rattle.refusals.specs.declared.verdict.Verdict.the-variants.{Allowed}
 use Rattle.effects.specs.Effect.{request, release, heritable, heir}
 use Rattle.effects.specs.declared.kinds.Move.the-variants.{Stay, Enter, Carry, GiveUp}
 use Rattle.effects.specs.declared.kinds.Effect.{Effect}
 use Rattle.block.specs.Table.{coreOf, unitOf, registerOf, unitCount, Shaped}
 use Rattle.block.specs.Sound as S
 use Rattle.block.specs.Parts.{Sound}
 use Rattle.block.specs.Steps.{verdict, effectOn, affected, moves}
 use Rattle.block.specs.declared.table.Table.{Table}
 use Rattle.ticket.proofs.Laws.{seen, told, never-opposite}
 use Rattle.ticket.proofs.Circle.{behind-leads, behind-only, behind-self}
 use Rattle.parts.proofs.Along.{same-or-not}
 use Rattle.parts.proofs.Bools.{and-left, and-right, and-both, or-left, or-right, or-cases, clash}
 use Rattle.parts.proofs.Folds.{at-some, some-none, count-unique}
 use Rattle.settling.proofs.Picking.{next-won}
 use Rattle.block.proofs.Allows.{may-request, may-nest, may-poll, may-come-back, may-interrupt, may-release}
 use Rattle.block.proofs.Standing.{units-few}
 use Rattle.block.proofs.Stepping.{holding, carrying, inherited, poll-moves}
-use Rattle.laws.proofs.Almost.{Almost}
-use Rattle.laws.proofs.Agreeing.{shows, in-line-at}
-use Rattle.laws.proofs.Moving.{Moved, entered, affected-shaped, affected-moved}
-use Rattle.laws.proofs.Columns.{lending, lenders-others, sound-few, sound-almost, small, column-changed, stays, staying, stayed}
+use Rattle.block.proofs.Almost.{Almost}
+use Rattle.block.proofs.Agreeing.{shows, in-line-at}
+use Rattle.block.proofs.Moving.{Moved, entered, affected-shaped, affected-moved}
+use Rattle.block.proofs.Columns.{lending, lenders-others, sound-few, sound-almost, small, column-changed, stays, staying, stayed}
 
 -- the units that a core names
 module _ (t : Table) (c : Core) where

@@ -1,4 +1,4 @@
--- `settling::settle::free` meets its contract: none of the first k registers has its flag set, until one has.
+-- `settling::next::free` meets its contract: none of the first k registers has its flag set, until one has.
 use borrow.Author.Needs.{needs}
 use borrow.Author.Tests.{eq-eqb, ne-eqb}
 use Prim.Native.Nat.{ℕ, _+_, _≤_, _<_, _-_}
@@ -12,8 +12,8 @@ use Rattle.parts.specs.declared.kinds.LockUnit.{LockUnit}
 use Rattle.settling.specs.Line.{flags}
 use Rattle.parts.proofs.Folds.{none, finished, count-some}
 use Rattle.parts.proofs.Loops.{count-more}
-use Rattle.settling.proofs.settle.free.Statement.{statement}
-use Rattle.settling.proofs.settle.free.Tie as tie
+use Rattle.settling.proofs.next.free.Statement.{statement}
+use Rattle.settling.proofs.next.free.Tie as tie
 
 module _ (x : LockUnit) (k : ℕ) where
   clear : 0 ≡ flags k x → registerIn x k .flag ≡ false → 0 ≡ flags (k + 1) x
