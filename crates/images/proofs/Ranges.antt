@@ -1,73 +1,83 @@
 -- Counts in range: where an image's words stand, and that their number is small.
-use Prim.Native.Nat.{ℕ, _+_, _*_, _/_, _%_, _≤_, _<_}
+use Prim.Native.Nat.{ℕ, suc, _+_, _*_, _/_, _%_, _≤_, _<_}
 use mathlib.Core.Bool.{true, _&&_}
-use mathlib.Core.Path.{_≡_}
-use native.Mathlib.Nat.{div-lt-iff-lt-mul, mod-lt, mul-le-mul}
+use mathlib.Core.Path.{_≡_, sym, _∙_, ap, subst}
+use native.Mathlib.Nat.{add-zero, suc-mul, div-lt-iff-lt-mul, div-eq-of-lt, mul-add-div-right, mul-add-mod-self-right, mod-eq-of-lt, mod-lt, mul-le-mul, mul-le-mul-right}
 use native.Mathlib.Omega.{arith}
 use lib.Dec.{leb}
-use mir.Syntax.{w16, w64}
+use mir.Syntax.{w64}
 use mir.Val.{Fits}
 use borrow.Author.Tests.{leb-true}
 use Rattle.parts.specs.Parts.{cores, units}
 use Rattle.parts.specs.Range.{perClass, inRange}
 use Rattle.parts.specs.declared.kinds.Counts.{Counts}
 use Rattle.parts.proofs.Bools.{and-left, and-right}
-use Rattle.images.specs.Image.{wordCount}
-
--- the tests of the range, as orders of numbers
-pub record Ranged (c : Counts) : Type 0 where
-  pub some-core : 1 ≤ c .cores
-  pub few-cores : c .cores ≤ cores
-  pub few-units : c .first + c .second ≤ units
+use Rattle.parts.proofs.Ranging.{cores-few}
+use Rattle.images.specs.Image.{perUnit, unitCount, wordCount}
 
 module _ (c : Counts) (e : inRange c ≡ true) where
-  pub ranged : Ranged c
-  ranged =
-      let a = leb 1 (c .cores) in
-      let b = a && leb (c .cores) cores in
-      let d = b && leb 1 (c .first) in
-      let f = d && leb (c .first) perClass in
-      let e3 = and-left f (leb (c .second) perClass) e in
-      let e2 = and-left d (leb (c .first) perClass) e3 in
-      let e1 = and-left b (leb 1 (c .first)) e2 in
-      let first = leb-true (c .first) perClass (and-right d (leb (c .first) perClass) e3) in
-      let second = leb-true (c .second) perClass (and-right f (leb (c .second) perClass) e) in
-      record {
-        some-core = leb-true 1 (c .cores) (and-left a (leb (c .cores) cores) e1);
-        few-cores = leb-true (c .cores) cores (and-right a (leb (c .cores) cores) e1);
-        few-units = omega arith;
-      }
+  pub units-few : unitCount c ≤ units
+  units-few =
+      let a = leb 1 (c .cores) && leb (c .cores) cores && leb 1 (c .first) in
+      let b = leb (c .first) perClass in
+      let d = leb (c .second) perClass in
+      let first = leb-true (c .first) perClass (and-right a b (and-left (a && b) d e)) in
+      let second = leb-true (c .second) perClass (and-right (a && b) d e) in
+      omega arith
 
-  pub divides : 0 < c .cores
-  divides = ranged .some-core
+  pub few-words : wordCount c ≤ 144
+  few-words =
+      let l = cores-few c e in
+      mul-le-mul {n₂ = 16} {m₂ = 9} units-few (omega arith)
 
-  module _ (i : ℕ) (h : i < wordCount c) where
-    pub unit-in : i / c .cores < units
-    unit-in =
-        let l = div-lt-iff-lt-mul divides .1 h in
-        let r = ranged in
-        omega arith
+  -- a unit within the counts has its place in the array, and its offset fits
+  module _ (u all : ℕ) (is : all ≡ unitCount c) (h : u < all) where
+    pub unit-room : u < units
+    unit-room = omega (arith, units-few)
 
-    -- its place in the array, in bytes
-    pub unit-offset : Fits w64 (i / c .cores * 32)
-    unit-offset = omega (arith, unit-in)
+    pub unit-offset : Fits w64 (u * 40)
+    unit-offset = omega (arith, unit-room)
 
-    pub core-in : i % c .cores < cores
-    core-in =
-        let l = mod-lt i divides in
-        let r = ranged in
-        omega arith
+-- what is divided by
+pub divides : (c : Counts) → 0 < perUnit c
+divides c = omega arith
 
-    -- it fits a core's number
-    pub core-small : Fits w16 (i % c .cores)
-    core-small = omega (arith, core-in)
+-- a core's place is below the last, and the last is a place
+pub core-place : (c : Counts) (k : ℕ) → k < c .cores → k < perUnit c
+core-place c k h = omega arith
 
-    pub core-offset : Fits w64 (i % c .cores * 4)
-    core-offset = omega (arith, core-in)
+pub last-place : (c : Counts) → c .cores < perUnit c
+last-place c = omega arith
+
+-- word i is one of the units', and of a unit's places
+module _ (c : Counts) (i : ℕ) where
+  pub unit-in : i < wordCount c → i / perUnit c < unitCount c
+  unit-in h = div-lt-iff-lt-mul (divides c) .1 h
+
+  pub place-in : i % perUnit c < perUnit c
+  place-in = mod-lt i (divides c)
+
+-- place k of unit u is a word of its own
+module _ (c : Counts) (u k : ℕ) (l : k < perUnit c) where
+  pub word-in : u < unitCount c → u * perUnit c + k < wordCount c
+  word-in h =
+      let a : suc u * perUnit c ≤ wordCount c = mul-le-mul-right (perUnit c) h in
+      let b = suc-mul u (perUnit c) in
+      omega arith
+
+  -- the same, by a number that is how many places a unit has
+  pub word-at : (m : ℕ) → m ≡ perUnit c → u < unitCount c → u * m + k < wordCount c
+  word-at m is h = subst (λ (z : ℕ). u * z + k < wordCount c) (sym is) (word-in h)
+
+  pub word-unit : (u * perUnit c + k) / perUnit c ≡ u
+  word-unit = mul-add-div-right (divides c) u k ∙ ap (λ (z : ℕ). u + z) (div-eq-of-lt l) ∙ add-zero u
+
+  pub word-place : (u * perUnit c + k) % perUnit c ≡ k
+  word-place = mul-add-mod-self-right u (perUnit c) k ∙ mod-eq-of-lt l
 
 -- the number of words fits a usize, whatever the counts
-pub count-fits : (a b k : ℕ) → a < 65536 → b < 65536 → k < 65536 → (a + b) * k < 8589934592
+pub count-fits : (a b k : ℕ) → a < 65536 → b < 65536 → k ≤ 65536 → (a + b) * k < 8589934592
 count-fits a b k h l m =
-    let n : (a + b) * k ≤ 131070 * 65535 =
-    mul-le-mul {n₂ = 131070} {m₂ = 65535} (omega arith) (omega arith) in
+    let n : (a + b) * k ≤ 131070 * 65536 =
+    mul-le-mul {n₂ = 131070} {m₂ = 65536} (omega arith) (omega arith) in
     omega arith

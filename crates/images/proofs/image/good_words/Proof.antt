@@ -1,56 +1,34 @@
--- `images::image::good_words` meets its contract: after i turns, ok says whether the first i words are good.
+-- `images::image::good_words` meets its contract: where the numbers are the same, all the words are as many as the counts ask for.
 use borrow.Author.Needs.{needs}
-use Prim.Native.Nat.{_≤_, _-_}
-use mathlib.Core.Path.{_≡_}
+use Prim.Native.Nat.{ℕ}
+use mathlib.Core.Bool.{Bool, _&&_}
+use mathlib.Core.List.{List}
+use mathlib.Core.Path.{_≡_, _∙_, ap₂}
+use lib.Dec.{eqb}
 use lib.ListN.{length}
 use Rattle.parts.specs.Fold.{every}
-use Rattle.parts.proofs.Folds.{none, finished}
-use Rattle.parts.proofs.Loops.{every-more}
-use Rattle.images.proofs.Good.{goodWord}
+use Rattle.parts.specs.declared.kinds.Counts.{Counts}
+use Rattle.images.specs.Image.{wordCount, goodWords}
+use Rattle.images.proofs.Good.{goodWord, counted}
 use Rattle.images.proofs.image.good_words.Statement.{statement}
 use Rattle.images.proofs.image.good_words.Tie as tie
 
-abbrev Inv-loop : tie.InvT-loop
-Inv-loop words ok₀ i₀ ok i = (i ≤ length words) × (ok ≡ every (goodWord words) i)
+judged :
+    (c : Counts) (ws : List ℕ) (n : ℕ) (b : Bool) →
+    n ≡ wordCount c →
+    b ≡ every (goodWord ws) (length ws) →
+    (eqb (length ws) n && b) ≡ goodWords c ws
+judged c ws n b is says =
+    ap₂ (λ (m : ℕ) (a : Bool). eqb (length ws) m && a) is says ∙ counted (goodWord ws) (length ws) (wordCount c)
 
-abbrev μ-loop : tie.MeasureT-loop
-μ-loop words ok₀ i₀ ok i = length words - i
+word-count-requires : tie.Need-word-count-requires
+word-count-requires c κs = search needs
 
-loop-holds : tie.Need-loop-holds Inv-loop μ-loop
-loop-holds c = search (none, needs)
+all-good-requires : tie.Need-all-good-requires
+all-good-requires c κs = search needs
 
-mul-is-good : tie.Need-mul-is-good Inv-loop μ-loop
-mul-is-good c = search needs
-
-shared-slice-read-is-good : tie.Need-shared-slice-read-is-good Inv-loop μ-loop
-shared-slice-read-is-good c = search needs
-
-is-good-requires : tie.Need-is-good-requires Inv-loop μ-loop
-is-good-requires c κs = search needs
-
-add-i : tie.Need-add-i Inv-loop μ-loop
-add-i c = search needs
-
-loop-less : tie.Need-loop-less Inv-loop μ-loop
-loop-less c = search needs
-
-loop-again : tie.Need-loop-again Inv-loop μ-loop
-loop-again c = search (every-more, needs)
-
-returns : tie.Need-returns Inv-loop μ-loop
-returns c = search (finished, needs)
+returns : tie.Need-returns
+returns c = search judged
 
 pub good-words-spec : {M : Type 1} → statement M
-good-words-spec =
-    tie.close
-    (tie.spec
-    Inv-loop
-    μ-loop
-    loop-holds
-    mul-is-good
-    shared-slice-read-is-good
-    is-good-requires
-    add-i
-    loop-less
-    loop-again
-    returns)
+good-words-spec = tie.close (tie.spec word-count-requires all-good-requires returns)

@@ -1,4 +1,4 @@
--- `images::image::shown` meets its contract: a good word shows its own register.
+-- `images::image::register_of` meets its contract: a good word shows its own register.
 use borrow.Author.Needs.{needs}
 use Prim.Native.Nat.{ℕ}
 use mathlib.Core.Bool.{true}
@@ -9,8 +9,8 @@ use Rattle.words.specs.Word.{registerOf, unpack, isGood}
 use Rattle.words.specs.declared.word.Unpacked.{Unpacked}
 use Rattle.words.specs.declared.word.Unpacked.the-variants.{Register as Shown, Refused as Bad}
 use Rattle.words.proofs.ReadsBack.{refused-bad, shown-own}
-use Rattle.images.proofs.image.shown.Statement.{statement}
-use Rattle.images.proofs.image.shown.Tie as tie
+use Rattle.images.proofs.image.register_of.Statement.{statement}
+use Rattle.images.proofs.image.register_of.Tie as tie
 
 module _ (w : ℕ) (x : Unpacked) (is : x ≡ unpack w) where
   own : (r : Register) → x ≡ Shown r → r ≡ registerOf w
@@ -37,5 +37,5 @@ returns c = search own
 returns-2 : tie.Need-returns-2
 returns-2 c = search none
 
-pub shown-spec : {M : Type 1} → statement M
-shown-spec = tie.close (tie.spec unpack-requires enum-known-x enum-told blank-requires returns returns-2)
+pub register-of-spec : {M : Type 1} → statement M
+register-of-spec = tie.close (tie.spec unpack-requires enum-known-x enum-told blank-requires returns returns-2)
