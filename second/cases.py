@@ -1,5 +1,5 @@
 #!/usr/bin/env python3
-"""A few cases of each letter for crates/cases and their answers, written out from document 01. `second/cases.py cases` prints what
+"""A few cases of each letter for crates/cases and their answers, written out from documents 01 and 02. `second/cases.py cases` prints what
 crates/cases/stdin must hold, `second/cases.py answers` its stdout. crates/cases/src/main.rt says what a case is."""
 import struct
 import sys
@@ -156,14 +156,32 @@ def register(ticket, valid, flag):
     return struct.pack("<HBB", ticket, valid, flag)
 
 
-def registers(shown):
-    return b"".join(register(*shown.get((u, k), (0, 0, 0))) for u in range(16) for k in range(8))
+def older(a, b):
+    return (a - b) % 65536 > 32768
+
+
+def next_of(line):
+    """Ticket, core, valid and held of the next in line among registers: the one without a flag that is older than all others without."""
+    waiting = [(t, k) for k, (t, valid, flag) in enumerate(line) if valid and not flag]
+    oldest = [(t, k, 1) for t, k in waiting if all(j == k or older(t, u) for u, j in waiting)]
+    return *(oldest or [(0, 0, 0)])[0], int(any(flag for _, _, flag in line))
+
+
+def units(shown, n=8):
+    """Sixteen units: their registers, and the next in line of the first n of them where `shown` has no other for (unit, "next")."""
+    for u in range(16):
+        line = [shown.get((u, k), (0, 0, 0)) for k in range(8)]
+        yield line, shown.get((u, "next"), next_of(line[:n]))
+
+
+def packed(shown, n=8):
+    return b"".join(b"".join(register(*r) for r in line) + struct.pack("<HHBB", *after) for line, after in units(shown, n))
 
 
 def whole(counts, counter, cores, shown):
     head = struct.pack("<4H", *counts, counter)
     body = b"".join(struct.pack("<4HB", *cores.get(k, (0, 0, 0, 0, 0))) for k in range(8))
-    return head + body + registers(shown)
+    return head + body + packed(shown)
 
 
 def table(counts, counter, cores, shown, sound):
@@ -178,9 +196,8 @@ def method(before, step, answer, after=None):
     fields = [*map(int, answer.split()), *counts, counter]
     for k in range(8):
         fields += cores.get(k, (0, 0, 0, 0, 0))
-    for u in range(16):
-        for k in range(8):
-            fields += shown.get((u, k), (0, 0, 0))
+    for line, after in units(shown):
+        fields += [n for r in line for n in r] + [*after]
     case = b"M" + whole(*before) + struct.pack("<BHH", number, int(core), int(unit))
     add(case, b"M" + b"".join(b"\t%d" % n for n in fields) + b"\n")
 
@@ -190,7 +207,7 @@ def reading(counts, words, answer):
 
 
 def writing(counts, room, shown, answer):
-    add(b"O" + struct.pack("<4H", *counts, room) + registers(shown), b"O\t%s\n" % answer)
+    add(b"O" + struct.pack("<4H", *counts, room) + packed(shown, counts[0]), b"O\t%s\n" % answer)
 
 
 def line(letter, room, place, numbers, answer):
@@ -222,6 +239,29 @@ table((9, 1, 1), 0, {}, {}, 0)
 # core 0 holds unit 0 and waits at unit 1, which core 1 holds; core 2 away
 table((3, 1, 1), 8, {0: (5, 5, 0, 1, 3), 1: (6, 6, 1, 0, 2), 2: (7, 7, 0, 0, 5)}, {(0, 0): (5, 1, 1), (1, 0): (5, 1, 0), (1, 1): (6, 7, 2)}, 1)
 table((3, 1, 1), 8, {0: (5, 5, 0, 1, 4), 1: (6, 6, 1, 0, 2), 2: (7, 7, 0, 0, 5)}, {(0, 0): (5, 1, 1), (1, 0): (5, 1, 0), (1, 1): (6, 1, 1)}, 0)
+# core 0 holds unit 0, cores 1 and 2 wait there with 6 and 7; next in line: ticket, core, valid, held
+HOLDS = {0: (5, 5, 0, 0, 2), 1: (6, 6, 0, 0, 1), 2: (7, 7, 0, 0, 1)}, {(0, 0): (5, 1, 1), (0, 1): (6, 1, 0), (0, 2): (7, 1, 0)}
+for u, after, sound in [
+    (0, (6, 1, 1, 1), 1),
+    (0, (6, 1, 255, 2), 1),
+    (0, (7, 1, 1, 1), 0),
+    (0, (6, 2, 1, 1), 0),
+    (0, (6, 257, 1, 1), 0),
+    (0, (6, 1, 0, 1), 0),
+    (0, (6, 1, 1, 0), 0),
+    (0, (0, 0, 0, 1), 0),
+    (0, (0, 0, 0, 0), 0),
+    (0, (5, 0, 1, 1), 0),
+    (0, (7, 2, 1, 1), 0),
+    (1, (0, 0, 0, 0), 1),
+    (1, (0, 0, 0, 1), 0),
+    (1, (0, 0, 1, 0), 0),
+    (1, (0, 1, 0, 0), 0),
+    (1, (1, 0, 0, 0), 0),
+    (2, (0, 0, 0, 1), 0),
+    (15, (6, 1, 1, 1), 0),
+]:
+    table((3, 1, 1), 8, HOLDS[0], {**HOLDS[1], (u, "next"): after}, sound)
 # document 01's run, step by step. A core: own and carried ticket, first and second unit, state.
 IDLE, WAITING, HOLDING, WAITING_SECOND, HOLDING_BOTH, AWAY = range(6)
 now = ((3, 1, 1), 65535, {}, {})
@@ -281,6 +321,17 @@ method(((2, 2, 0), 32767, live, {(0, 0): (0, 1, 1)}), "R 1 1", "0 32767 1 1 1", 
 # 16 before all others; the table's numbers come back as they were
 method(((3, 1, 1), 65535, {}, {(1, 2): (0, 0, 1)}), "R 0 0", "16 0 0")
 method(((9, 65535, 1), 12, {7: (1, 2, 3, 65535, AWAY)}, {(15, 7): (65535, 1, 1)}), "P 9", "16 0 0")
+for step in ["R 0 0", "N 0 1", "P 1", "I 1", "C 1", "L 0", "P 9"]:
+    for after in [(7, 2, 1, 1), (0, 0, 0, 1)]:
+        method(((3, 1, 1), 8, HOLDS[0], {**HOLDS[1], (0, "next"): after}), step, "16 0 0")
+# the next in line goes, and comes back; then the holder goes, by whose release it is granted
+cores, shown = HOLDS
+gone = ((3, 1, 1), 8, {**cores, 1: (6, 6, 0, 0, AWAY)}, {(0, 0): (5, 1, 1), (0, 2): (7, 1, 0), (0, "next"): (7, 2, 1, 1)})
+held = {**shown, (0, "next"): (6, 1, 1, 1)}
+method(((3, 1, 1), 8, cores, held), "I 1", "0 6 0", gone)
+method(gone, "C 1", "0 6 0", ((3, 1, 1), 8, cores, held))
+granted = {(0, 1): (6, 1, 1), (0, 2): (7, 1, 0), (0, "next"): (7, 2, 1, 1)}
+method(((3, 1, 1), 8, cores, held), "L 0", "0 5 1 0 1", ((3, 1, 1), 8, {1: cores[1], 2: cores[2]}, granted))
 # one release grants both its units; numbers from 5 on are L
 waiting = {1: (6, 6, 0, 0, WAITING), 2: (7, 7, 1, 0, WAITING)}
 shown = {(0, 0): (5, 1, 1), (1, 0): (5, 1, 1), (0, 1): (6, 1, 0), (1, 2): (7, 1, 0)}
@@ -292,19 +343,58 @@ for w, a in [(65536, "0\t0\t1\t0"), (262143, "0\t65535\t1\t1"), (131072, "30"), 
     add(b"W" + struct.pack("<I", w), b"W\t%s\n" % a.encode())
 for r, a in [((0, 1, 0), "0\t65536"), ((65535, 1, 1), "0\t262143"), ((0, 0, 1), "30"), ((5, 0, 0), "30"), ((0, 0, 0), "0\t0"), ((258, 255, 0), "0\t65794")]:
     add(b"P" + register(*r), b"P\t%s\n" % a.encode())
-reading((2, 1, 1), [65541, 196612, 0, 65540], b"0\t5\t1\t0\t4\t1\t1\t0\t0\t0\t4\t1\t0")
-reading((2, 1, 1), [65541, 196612, 5, 65540], b"30")
-reading((2, 1, 1), [65541, 196612, 0], b"30")
-reading((2, 0, 1), [65541, 196612], b"20")
+reading((2, 1, 1), [65541, 196612, 65541, 0, 65540, 65540], b"0\t5\t1\t0\t4\t1\t1\t5\t0\t1\t1\t0\t0\t0\t4\t1\t0\t4\t1\t1\t0")
+reading((2, 1, 1), [65541, 196612, 65541, 5, 65540, 65540], b"30")
+reading((2, 1, 1), [65541, 196612, 65541, 0, 65540], b"30")
+reading((2, 1, 1), [65541, 196612, 65541, 0, 65540, 65540, 0], b"30")
+reading((2, 0, 1), [65541, 196612, 65541], b"20")
 reading((1, 1, 0), [], b"30")
-reading((8, 8, 8), [65536 + i for i in range(128)], b"0" + b"".join(b"\t%d\t1\t0" % i for i in range(128)))
+# without the words of the next in line, and with them before the cores'
+reading((2, 1, 1), [65541, 196612, 0, 65540], b"30")
+reading((2, 1, 1), [65541, 65541, 196612, 65540, 0, 65540], b"30")
+# a unit of two cores: nobody; the wrong core, the one with the flag, bit 17 for bit 16, both, neither, bit 18
+reading((2, 1, 0), [0, 0, 0], b"0" + b"\t0" * 10)
+reading((2, 1, 0), [196612, 0, 0], b"0\t4\t1\t1" + b"\t0" * 6 + b"\t1")
+reading((2, 1, 0), [196612, 0, 65540], b"30")
+reading((2, 1, 0), [65541, 65540, 65540], b"0\t5\t1\t0\t4\t1\t0\t4\t1\t1\t0")
+for word in [65541, 0, 4, 131076, 196612, 65540 + 262144, 65536]:
+    reading((2, 1, 0), [65541, 65540, word], b"30")
+# ticket 0 in line, which is not nobody
+reading((2, 1, 0), [65536, 262143, 65536], b"0\t0\t1\t0\t65535\t1\t1\t0\t0\t1\t1")
+reading((2, 1, 0), [65536, 262143, 0], b"30")
+# the same ticket, half the circle apart, each older than the next in a circle: nobody; and just beside, somebody
+for tickets, at in [((9, 9), None), ((0, 32768), None), ((0, 32767), 0), ((0, 32769), 1), ((65535, 0), 0), ((0, 21845, 43690), None),
+                    ((9, 8, 9), 1), ((5, 32773, 6), None), ((0, 21845, 43690, 65535), None), ((3, 2, 1, 0), 3)]:
+    words = [65536 + t for t in tickets]
+    fields = [n for t in tickets for n in (t, 1, 0)] + ([0, 0, 0, 0] if at is None else [tickets[at], at, 1, 0])
+    for next_word in [0, *words]:
+        right = next_word == (0 if at is None else words[at])
+        reading((len(words), 1, 0), [*words, next_word], b"\t".join(b"%d" % n for n in [0, *fields]) if right else b"30")
+eight = [(u, [65536 + 8 * u + k for k in range(8)]) for u in range(16)]
+answer = b"".join(b"".join(b"\t%d\t1\t0" % (8 * u + k) for k in range(8)) + b"\t%d\t0\t1\t0" % (8 * u) for u in range(16))
+reading((8, 8, 8), [w for u, line in eight for w in [*line, 65536 + 8 * u]], b"0" + answer)
+reading((8, 8, 8), [w for u, line in eight for w in line], b"30")
 reading((8, 8, 8), [0] * 200, b"30")
 d = {(0, 0): (5, 1, 0), (0, 1): (4, 1, 1), (1, 1): (4, 1, 0), (2, 0): (9, 0, 1)}
-writing((2, 1, 1), 4, d, b"0\t65541\t196612\t0\t65540")
-writing((2, 1, 1), 3, d, b"30")
-writing((2, 2, 1), 6, d, b"30")
-writing((2, 1, 9), 4, d, b"20")
-writing((8, 8, 8), 128, {(u, k): (8 * u + k, 1, 0) for u in range(16) for k in range(8)}, b"0" + b"".join(b"\t%d" % (65536 + i) for i in range(128)))
+writing((2, 1, 1), 6, d, b"0\t65541\t196612\t65541\t0\t65540\t65540")
+writing((2, 1, 1), 5, d, b"30")
+writing((2, 1, 1), 4, d, b"30")
+writing((2, 2, 1), 9, d, b"30")
+writing((2, 1, 9), 6, d, b"20")
+# another next in line than (4, 1, 1, 0) at unit 1, one past the units, and one of a core past the count
+for after in [(5, 1, 1, 0), (4, 0, 1, 0), (4, 1, 0, 0), (4, 1, 1, 1), (0, 0, 0, 0)]:
+    writing((2, 1, 1), 6, {**d, (1, "next"): after}, b"30")
+writing((2, 1, 1), 6, {**d, (1, 2): (3, 1, 0), (2, "next"): (7, 7, 1, 1)}, b"0\t65541\t196612\t65541\t0\t65540\t65540")
+writing((2, 1, 1), 6, {**d, (1, 2): (3, 1, 0), (1, "next"): (3, 2, 1, 0)}, b"30")
+# nobody is the oldest of a circle, or of two the same
+circle = {(0, 0): (0, 1, 0), (0, 1): (21845, 1, 0), (0, 2): (43690, 1, 0)}
+writing((3, 1, 0), 4, circle, b"0\t65536\t87381\t109226\t0")
+writing((3, 1, 0), 4, {**circle, (0, "next"): (0, 0, 1, 0)}, b"30")
+writing((2, 1, 0), 3, circle, b"0\t65536\t87381\t65536")
+writing((2, 1, 0), 3, {(0, 0): (9, 1, 0), (0, 1): (9, 1, 0)}, b"0\t65545\t65545\t0")
+writing((2, 1, 0), 3, {(0, 0): (9, 1, 0), (0, 1): (9, 1, 0), (0, "next"): (9, 1, 1, 0)}, b"30")
+answer = b"".join(b"\t%d" % w for u, line in eight for w in [*line, 65536 + 8 * u])
+writing((8, 8, 8), 144, {(u, k): (8 * u + k, 1, 0) for u in range(16) for k in range(8)}, b"0" + answer)
 for room, place, numbers, answer in [
     (14, 0, (8, 8, 8, 65535), "T 8 8 8 65535"),
     (13, 0, (8, 8, 8, 65535), 23),

@@ -9,6 +9,8 @@ class Table:
         self.core = [{"state": "idle"} for _ in range(cores)]
         # per unit and core: None, or [ticket, flag]
         self.reg = [[None] * cores for _ in range(first + second)]
+        # per unit: ticket, core, whether there is one, whether the unit is held
+        self.next = [next_in_line(regs) for regs in self.reg]
 
 
 def compare(a, b):
@@ -25,6 +27,13 @@ def oldest(tickets):
     return None
 
 
+def next_in_line(regs):
+    """The register without a flag that is older than all others without."""
+    line = [(r[0], k) for k, r in enumerate(regs) if r and not r[1]]
+    best = [(n, k) for n, k in line if all(j == k or compare(n, m) == "older" for m, j in line)]
+    return (*(best or [(0, 0)])[0], bool(best), any(r and r[1] for r in regs))
+
+
 def settle(t):
     grants = []
     for u, regs in enumerate(t.reg):
@@ -33,6 +42,7 @@ def settle(t):
             k = standing[oldest(list(standing))]
             regs[k][1] = True
             grants.append((u, k))
+        t.next[u] = next_in_line(regs)
     return grants
 
 
@@ -46,7 +56,9 @@ HOLDING, BOTH = "holding", "holding both"
 
 
 def step(t, letter, k, u=None):
-    """The answer, ticket and grants; the table changes in place."""
+    """The answer, ticket and grants; the table changes in place. A table is sound here if its next in line are."""
+    if t.next != [next_in_line(regs) for regs in t.reg]:
+        return 16, 0, []
     if k >= t.n:
         return 10, 0, []
     if letter in "RN" and u >= t.a + t.b:
@@ -80,7 +92,8 @@ def step(t, letter, k, u=None):
             c["state"] = HOLDING if s == WAITING else BOTH
             return 1, c["carried"], settle(t)
         if s == SECOND:
-            c["carried"] = oldest([c["own"]] + [r[0] for r in t.reg[c["first"]] if r and not r[1]])
+            ticket, _, waits, _ = t.next[c["first"]]
+            c["carried"] = oldest([c["own"], ticket] if waits else [c["own"]])
             t.reg[at][k][0] = c["carried"]
         return 2, c["carried"], settle(t)
     if letter == "I":
@@ -140,9 +153,17 @@ def main():
         step(t, "R", 0, 0)
         t.counter = counter
         print(line(*step(t, "R", 1, 0)))
-    # a table that is not sound: every step is refused with 16
+    # tables that are not sound: a blank register shows a ticket, which has no place in this model; and next in line at unit 0 is
+    # nobody's ticket, nobody though core 0 waits, and the core that has the flag
     for _ in "RNPICL":
         print(line(16, 0, []))
+    for name, shown in ("idle", (0, 0, True, False)), (STARTS[1][0], (0, 0, False, True)), (STARTS[2][0], (65534, 0, True, True)):
+        t = Table(3, 2, 2, 65534)
+        for s in dict(STARTS)[name]:
+            print(line(*step(t, *s)))
+        t.next[0] = shown
+        for s in ("R", 0, 0), ("N", 0, 2), ("P", 0), ("I", 0), ("C", 0), ("L", 0):
+            print(line(*step(copy.deepcopy(t), *s)))
     # counts at and past the ends of their ranges
     for cores, first, second in (1, 1, 0), (8, 8, 8), (0, 1, 0), (9, 1, 0), (1, 0, 0), (1, 9, 0), (1, 1, 9):
         print(0 if 1 <= cores <= 8 and 1 <= first <= 8 and second <= 8 else 20)

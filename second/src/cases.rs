@@ -6,16 +6,17 @@
 //!   call with that room (0 where the script is finished), and the bytes written.
 //! - `G`: u16 length, log. Answer: `G`, the number, and for 40 the line and the field,
 //!   for 20, 21, 22 and 24 the line, for 0 the number of steps that agree.
-//! - `S`: a table of 592 bytes (see `put_whole`). Answer: `S`, 1 if sound else 0.
+//! - `S`: a table of 688 bytes (see `put_whole`). Answer: `S`, 1 if sound else 0.
 //! - `M`: a table as in `S`, u8 letter (0 R, 1 N, 2 P, 3 I, 4 C, from 5 on L), u16
 //!   core, u16 unit. Answer: `M`, answer, ticket, number of grants, unit and core
 //!   of each, and every number of the next table in the order of `put_whole`.
 //! - `W`: u32 word. Answer: `W`, 30, or `W`, 0, ticket, valid, flag.
 //! - `P`: a register. Answer: `P`, 30, or `P`, 0, word.
 //! - `I`: u16 cores, first, second, n; n words. Answer: `I`, 20 or 30, or `I`, 0
-//!   and ticket, valid, flag of each register.
-//! - `O`: u16 cores, first, second, room; 16 x 8 registers. Answer: `O`, 20 or
-//!   30, or `O`, 0 and each word.
+//!   and for each unit ticket, valid, flag of each register, and ticket, core,
+//!   valid, held of the next in line.
+//! - `O`: u16 cores, first, second, room; 16 units of 8 registers and the next in
+//!   line. Answer: `O`, 20 or 30, or `O`, 0 and each word.
 //! - `H`, `L`, `E`: u16 bytes lent (at most 64, each `.`), u16 place, and the line
 //!   to write there. `H`: the header's four u16. `L`: the step as in `M`. `E`: u32
 //!   step number, u8 index of the answer in `ANSWERS` (from 10 on the last), u16
@@ -29,15 +30,17 @@ use std::io::{self, BufReader, BufWriter, ErrorKind, Read, Write};
 
 use crate::log;
 use crate::script::put_field;
-use crate::table::{Core, Kind, Outcome, Register, State, Step, Table, Unit, MAX_CORES, MAX_UNITS};
+use crate::table::{
+    Core, Kind, Next, Outcome, Register, State, Step, Table, Unit, MAX_CORES, MAX_UNITS,
+};
 use crate::translate::translate;
 use crate::words;
 use crate::writers::Line;
 
 /// Most words of an image in a case.
 pub const WORDS_MAX: usize = 200;
-const REGISTERS: usize = MAX_UNITS * MAX_CORES * 4;
-pub const TABLE: usize = 8 + MAX_CORES * 9 + REGISTERS;
+const UNITS: usize = MAX_UNITS * (MAX_CORES * 4 + 6);
+pub const TABLE: usize = 8 + MAX_CORES * 9 + UNITS;
 /// Most bytes lent in a case.
 pub const LENT_MAX: usize = 64;
 /// The answers' order in a case `E`.
@@ -60,6 +63,18 @@ fn put_register(case: &mut Vec<u8>, register: &Register) {
     put_u16(case, register.ticket);
     case.push(register.valid as u8);
     case.push(register.flag as u8);
+}
+
+fn put_units(case: &mut Vec<u8>, units: &[Unit; MAX_UNITS]) {
+    for unit in units {
+        for register in &unit.registers {
+            put_register(case, register);
+        }
+        put_u16(case, unit.next.ticket);
+        put_u16(case, unit.next.core);
+        case.push(unit.next.valid as u8);
+        case.push(unit.next.held as u8);
+    }
 }
 
 /// A script or a log, which have at most 65,535 bytes here, after its length.
@@ -120,9 +135,7 @@ fn put_whole(case: &mut Vec<u8>, table: &Table) {
         }
         case.push(core.state as u8);
     }
-    for register in table.unit.iter().flatten() {
-        put_register(case, register);
-    }
+    put_units(case, &table.unit);
 }
 
 pub fn put_table(case: &mut Vec<u8>, table: &Table) {
@@ -170,9 +183,7 @@ pub fn put_write_image(case: &mut Vec<u8>, counts: [u16; 3], room: u16, units: &
         put_u16(case, number);
     }
     put_u16(case, room);
-    for register in units.iter().flatten() {
-        put_register(case, register);
-    }
+    put_units(case, units);
 }
 
 pub fn put_line(case: &mut Vec<u8>, room: u16, place: u16, line: &Line) {
@@ -223,11 +234,15 @@ impl Payload<'_> {
     }
 
     fn units(&mut self) -> [Unit; MAX_UNITS] {
-        let mut units = [Unit::default(); MAX_UNITS];
-        for register in units.iter_mut().flatten() {
-            *register = self.register();
-        }
-        units
+        [(); MAX_UNITS].map(|()| Unit {
+            registers: [(); MAX_CORES].map(|()| self.register()),
+            next: Next {
+                ticket: self.u16(),
+                core: self.u16(),
+                valid: self.byte() != 0,
+                held: self.byte() != 0,
+            },
+        })
     }
 
     fn table(&mut self) -> Table {
@@ -295,6 +310,17 @@ fn put_fields(out: &mut Vec<u8>, register: &Register) {
     put_field(out, register.flag as u32);
 }
 
+/// Registers of a unit, and its next in line.
+fn put_unit(out: &mut Vec<u8>, registers: &[Register], next: &Next) {
+    for register in registers {
+        put_fields(out, register);
+    }
+    put_field(out, next.ticket as u32);
+    put_field(out, next.core as u32);
+    put_field(out, next.valid as u32);
+    put_field(out, next.held as u32);
+}
+
 fn put_outcome(out: &mut Vec<u8>, outcome: &Outcome) {
     put_field(out, outcome.answer as u32);
     put_field(out, outcome.ticket as u32);
@@ -316,8 +342,8 @@ fn put_numbers(out: &mut Vec<u8>, table: &Table) {
         }
         put_field(out, core.state as u32);
     }
-    for register in table.unit.iter().flatten() {
-        put_fields(out, register);
+    for unit in &table.unit {
+        put_unit(out, &unit.registers, &unit.next);
     }
 }
 
@@ -406,15 +432,13 @@ fn answer<R: Read>(input: &mut R, payload: &mut Vec<u8>, out: &mut Vec<u8>) -> i
                 Ok(units) => {
                     put_answer(out, letter, 0);
                     for unit in &units[..(first + second) as usize] {
-                        for register in &unit[..cores as usize] {
-                            put_fields(out, register);
-                        }
+                        put_unit(out, &unit.registers[..cores as usize], &unit.next);
                     }
                 }
             }
         }
         b'O' => {
-            read(payload, 8 + REGISTERS)?;
+            read(payload, 8 + UNITS)?;
             let mut fields = Payload(payload);
             let [cores, first, second, room] = [(); 4].map(|()| fields.u16());
             let units = fields.units();
@@ -511,18 +535,29 @@ pub fn described(case: &[u8]) -> String {
         for (c, core) in table.core.iter().enumerate() {
             text += &format!("\ncore {c}: {core:?}");
         }
-        for (u, unit) in table.unit.iter().enumerate() {
-            for (c, register) in unit.iter().enumerate() {
-                if *register != Register::default() {
-                    text += &format!("\nunit {u} core {c}: {register:?}");
-                }
-            }
-        }
+        put_described(&mut text, &table.unit);
         if case[0] == b'M' {
             text += &format!("\n{:?}", fields.step());
         }
     }
+    if case[0] == b'O' {
+        put_described(&mut text, &Payload(&case[9..]).units());
+    }
     text
+}
+
+/// What is not blank of the units, for a reader.
+fn put_described(text: &mut String, units: &[Unit; MAX_UNITS]) {
+    for (u, unit) in units.iter().enumerate() {
+        for (c, register) in unit.registers.iter().enumerate() {
+            if *register != Register::default() {
+                *text += &format!("\nunit {u} core {c}: {register:?}");
+            }
+        }
+        if unit.next != Next::default() {
+            *text += &format!("\nunit {u}: {:?}", unit.next);
+        }
+    }
 }
 
 #[cfg(test)]
@@ -557,12 +592,28 @@ mod tests {
                 flag: false,
             },
         );
+        put_read_image(&mut cases, [1, 1, 1], &[65_537, 65_537, 0, 0]);
+        put_read_image(&mut cases, [1, 1, 0], &[196_611, 0]);
         put_read_image(&mut cases, [1, 1, 1], &[65_537, 0]);
-        put_read_image(&mut cases, [1, 1, 1], &[65_537]);
+        put_read_image(&mut cases, [1, 1, 1], &[65_537, 0, 0, 0]);
         put_read_image(&mut cases, [9, 1, 1], &[65_537]);
+        put_write_image(&mut cases, [2, 1, 1], 6, &table.unit);
         put_write_image(&mut cases, [2, 1, 1], 4, &table.unit);
-        put_write_image(&mut cases, [2, 1, 1], 5, &table.unit);
-        put_write_image(&mut cases, [2, 0, 1], 2, &table.unit);
+        put_write_image(&mut cases, [2, 0, 1], 3, &table.unit);
+        let mut units = table.unit;
+        units[0].registers[1] = Register {
+            ticket: 3,
+            valid: true,
+            flag: false,
+        };
+        put_write_image(&mut cases, [2, 1, 0], 3, &units);
+        units[0].next = Next {
+            ticket: 3,
+            core: 1,
+            valid: true,
+            held: false,
+        };
+        put_write_image(&mut cases, [2, 1, 0], 3, &units);
         put_log(&mut cases, b"T\t1\t1\t0\t7\nP\t0\t12\t0\t0\n");
         put_log(&mut cases, b"T\t1\t1\t0\t7\nP\t0\t12\t1\t0\n");
         put_log(&mut cases, b"T\t1\t1\t0\t7\nP\t0\t12\t0\t0\nP");
@@ -573,19 +624,22 @@ mod tests {
         assert_eq!(
             String::from_utf8(out).unwrap(),
             "E\t1\t1\t0\t7\n1\t0\t7\t1\t0\t0\nX\t22\n--\nX\t22\n--\nS\t1\nS\t0\n\
-             W\t0\t65535\t1\t1\nW\t30\nP\t0\t65538\nP\t30\nI\t0\t1\t1\t0\t0\t0\t0\nI\t30\nI\t20\n\
-             O\t0\t0\t0\t0\t0\nO\t30\nO\t20\nG\t0\t1\nG\t40\t2\t4\nG\t22\t3\nG\t20\t1\n"
+             W\t0\t65535\t1\t1\nW\t30\nP\t0\t65538\nP\t30\n\
+             I\t0\t1\t1\t0\t1\t0\t1\t0\t0\t0\t0\t0\t0\t0\t0\nI\t0\t3\t1\t1\t0\t0\t0\t1\n\
+             I\t30\nI\t30\nI\t20\nO\t0\t0\t0\t0\t0\t0\t0\nO\t30\nO\t20\nO\t30\n\
+             O\t0\t0\t65539\t65539\nG\t0\t1\nG\t40\t2\t4\nG\t22\t3\nG\t20\t1\n"
         );
-        assert_eq!(TABLE, 592);
+        assert_eq!(TABLE, 688);
     }
 
-    /// A table's line has 8 x 5 numbers of cores and 128 x 3 of registers.
+    /// A table's line has 8 x 5 numbers of cores and for each of 16 units 8 x 3 of
+    /// registers and 4 of the next in line.
     #[test]
     fn steps_by_methods() {
         let answered = |table: &Table, kind, core, unit| {
             let (mut case, mut out) = (Vec::new(), Vec::new());
             put_method(&mut case, table, Step { kind, core, unit });
-            assert_eq!(case.len(), 598);
+            assert_eq!(case.len(), 694);
             answer_to(&case, &mut out);
             String::from_utf8(out).unwrap()
         };
@@ -593,14 +647,25 @@ mod tests {
         let table = Table::fresh(2, 1, 1, 5).unwrap();
         let mut expected = "M\t0\t5\t1\t1\t1\t2\t1\t1\t6".to_string();
         expected += &(zeros(5) + "\t5\t5\t1\t0\t1" + &zeros(30));
-        expected += &(zeros(27) + "\t5\t1\t1" + &zeros(354) + "\n");
+        expected += &(zeros(28 + 3) + "\t5\t1\t1" + &zeros(18) + "\t0\t0\t0\t1");
+        expected += &(zeros(14 * 28) + "\n");
         assert_eq!(answered(&table, Kind::Request, 1, 1), expected);
-        let expected = "M\t12\t0\t0\t2\t1\t1\t5".to_string() + &zeros(424) + "\n";
+        let expected = "M\t12\t0\t0\t2\t1\t1\t5".to_string() + &zeros(488) + "\n";
         assert_eq!(answered(&table, Kind::Leave, 0, 9), expected);
-        let mut broken = table;
+        let mut broken = table.clone();
         broken.core[1].second = 1;
         let mut expected = "M\t16\t0\t0\t2\t1\t1\t5".to_string();
-        expected += &(zeros(5) + "\t0\t0\t0\t1\t0" + &zeros(414) + "\n");
+        expected += &(zeros(5) + "\t0\t0\t0\t1\t0" + &zeros(478) + "\n");
+        assert_eq!(answered(&broken, Kind::Poll, 9, 9), expected);
+        let mut broken = table;
+        broken.unit[15].next = Next {
+            ticket: 1,
+            core: 2,
+            valid: true,
+            held: true,
+        };
+        let mut expected = "M\t16\t0\t0\t2\t1\t1\t5".to_string();
+        expected += &(zeros(484) + "\t1\t2\t1\t1\n");
         assert_eq!(answered(&broken, Kind::Poll, 9, 9), expected);
     }
 }

@@ -11,6 +11,7 @@ use std::time::{Duration, Instant};
 
 use crate::cases;
 use crate::damage;
+use crate::lines;
 use crate::logs;
 use crate::make::{edge_counter, Maker, Seen};
 use crate::program::{self, Ran};
@@ -61,6 +62,8 @@ const NUMBERS: [u32; 13] = [0, 1, 2, 10, 11, 12, 13, 14, 15, 20, 21, 22, 24];
 /// The answers so many steps by methods have to meet.
 const METHOD_NUMBERS: [u32; 10] = [0, 1, 2, 10, 11, 12, 13, 14, 15, 16];
 const METHODS_ENOUGH: u64 = 20_000;
+/// With so many cases of tables and images besides, each kind of next in line is met.
+const OTHERS_ENOUGH: u64 = 20_000;
 /// The answers so many lines by the writers have to meet.
 const WRITER_NUMBERS: [(u8, u32); 7] = [
     (b'H', 0),
@@ -243,6 +246,8 @@ struct Tally {
     numbers: BTreeMap<u32, u64>,
     others: BTreeMap<u8, u64>,
     sound: u64,
+    /// Tables and images by their next in line.
+    lines: lines::Kinds,
     /// Steps by methods: their letters, their answers, those with two grants.
     methods: BTreeMap<u8, u64>,
     method_numbers: BTreeMap<u32, u64>,
@@ -285,6 +290,7 @@ impl Tally {
         add_all(&mut self.letters, other.letters);
         add_all(&mut self.numbers, other.numbers);
         add_all(&mut self.others, other.others);
+        add_all(&mut self.lines, other.lines);
         add_all(&mut self.methods, other.methods);
         add_all(&mut self.method_numbers, other.method_numbers);
         add_all(&mut self.writers, other.writers);
@@ -619,7 +625,7 @@ impl Comparison<'_> {
                 let mut rng = Rng::new(seed, stream);
                 let mut cases = Cases::default();
                 for _ in 0..count {
-                    let letter = tables::put_any(&mut rng, &mut cases.input);
+                    let letter = tables::put_any(&mut rng, &mut cases.input, &mut tally.lines);
                     *tally.others.entry(letter).or_default() += 1;
                     let answer = cases.close();
                     tally.sound += (answer == b"S\t1\n") as u64;
@@ -630,7 +636,7 @@ impl Comparison<'_> {
                 let mut rng = Rng::new(seed, stream);
                 let mut cases = Cases::default();
                 for _ in 0..count {
-                    let step = tables::put_method(&mut rng, &mut cases.input);
+                    let step = tables::put_method(&mut rng, &mut cases.input, &mut tally.lines);
                     let letter = cases::KINDS.iter().position(|kind| *kind == step.kind);
                     let letter = LETTERS[letter.expect("all kinds are listed")];
                     *tally.methods.entry(letter).or_default() += 1;
@@ -1160,6 +1166,10 @@ pub fn compare(options: &Options) -> i32 {
         tally.method_two_grants
     );
     println!(
+        "next in line: {}",
+        listed(&tally.lines, |kind| format!("{kind}:"))
+    );
+    println!(
         "lines by the writers: {}; to the last byte lent {}",
         listed(&tally.writers, |(letter, number)| format!(
             "{} {number}:",
@@ -1194,6 +1204,18 @@ pub fn compare(options: &Options) -> i32 {
         .any(|number| !tally.method_numbers.contains_key(number));
     if unmet && options.methods >= METHODS_ENOUGH {
         println!("so many steps by methods have to meet every answer");
+        return 1;
+    }
+    let unmet: Vec<String> = lines::needed()
+        .into_iter()
+        .filter(|kind| !tally.lines.contains_key(kind))
+        .collect();
+    let enough = options.methods >= METHODS_ENOUGH && options.others >= OTHERS_ENOUGH;
+    if enough && !unmet.is_empty() {
+        println!(
+            "so many tables and images have to meet every kind of next in line: {}",
+            unmet.join(", ")
+        );
         return 1;
     }
     let unmet = WRITER_NUMBERS

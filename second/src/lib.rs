@@ -4,6 +4,7 @@
 pub mod cases;
 pub mod compare;
 pub mod damage;
+pub mod lines;
 pub mod log;
 pub mod logs;
 pub mod make;

@@ -314,6 +314,7 @@ impl Maker {
                 }
                 State::Waiting if core.first < table.first_class && flag(core.first, a) => {
                     let crowded = table.unit[core.first as usize]
+                        .registers
                         .iter()
                         .filter(|r| r.valid)
                         .count();
@@ -332,7 +333,7 @@ impl Maker {
             let seconds = table.first_class..table.units();
             let taken = seconds
                 .clone()
-                .find(|u| table.unit[*u as usize].iter().any(|r| r.flag));
+                .find(|u| table.unit[*u as usize].registers.iter().any(|r| r.flag));
             let unit = taken.unwrap_or(seconds.start);
             return step(Kind::Nest, a, unit);
         }
@@ -447,6 +448,7 @@ impl Maker {
         let (core, runner) = (self.any_core(), self.any_core());
         let unit = self.rng.below(self.table.units() as u64) as u16;
         let free = self.table.unit[unit as usize]
+            .registers
             .iter()
             .all(|register| !register.valid);
         let states = (self.table.core[core].state, self.table.core[runner].state);

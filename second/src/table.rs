@@ -1,6 +1,8 @@
 //! The table of cores, units and the ticket counter, the six steps on it, and
 //! the judgement whether a table is sound.
 
+use std::ops::{Index, IndexMut};
+
 pub const MAX_CORES: usize = 8;
 pub const MAX_UNITS: usize = 16;
 
@@ -36,8 +38,81 @@ pub struct Register {
     pub flag: bool,
 }
 
-/// One register for each core.
-pub type Unit = [Register; MAX_CORES];
+impl Register {
+    #[inline]
+    pub fn waits(&self) -> bool {
+        self.valid && !self.flag
+    }
+}
+
+/// Who is next in line at a unit, and whether some flag is set there. Ticket and
+/// core are 0 where nobody is next.
+#[derive(Clone, Copy, PartialEq, Eq, Debug, Default)]
+pub struct Next {
+    pub ticket: u16,
+    pub core: u16,
+    pub valid: bool,
+    pub held: bool,
+}
+
+impl Next {
+    /// The next in line of any registers: the one without a flag that is older than
+    /// each other without. Tickets need not lie within half the circle, so that
+    /// there may be none.
+    pub fn of(registers: &[Register]) -> Next {
+        let next = Next::passed(registers);
+        let beaten = |(c, register): (usize, &Register)| {
+            c != next.core as usize && register.waits() && !older(next.ticket, register.ticket)
+        };
+        if next.valid && registers.iter().enumerate().any(beaten) {
+            return Next {
+                held: next.held,
+                ..Next::default()
+            };
+        }
+        next
+    }
+
+    /// Whoever is older than each other is left at the end: it takes the place of
+    /// any that stands before it, and gives it to none after it. Tickets that lie
+    /// within half the circle and differ, as in a sound table, have such a one.
+    #[inline]
+    fn passed(registers: &[Register]) -> Next {
+        let mut next = Next::default();
+        for (c, register) in registers.iter().enumerate() {
+            next.held |= register.flag;
+            if register.waits() && !(next.valid && older(next.ticket, register.ticket)) {
+                next.ticket = register.ticket;
+                next.core = c as u16;
+                next.valid = true;
+            }
+        }
+        next
+    }
+}
+
+/// A register for each core, by whose number a unit is indexed, and its next in line.
+#[derive(Clone, Copy, PartialEq, Eq, Debug, Default)]
+pub struct Unit {
+    pub registers: [Register; MAX_CORES],
+    pub next: Next,
+}
+
+impl Index<usize> for Unit {
+    type Output = Register;
+
+    #[inline]
+    fn index(&self, core: usize) -> &Register {
+        &self.registers[core]
+    }
+}
+
+impl IndexMut<usize> for Unit {
+    #[inline]
+    fn index_mut(&mut self, core: usize) -> &mut Register {
+        &mut self.registers[core]
+    }
+}
 
 #[derive(Clone, PartialEq, Eq, Debug)]
 pub struct Table {
@@ -84,6 +159,11 @@ impl Outcome {
             granted: 0,
             grants: [(0, 0); 2],
         }
+    }
+
+    fn grant(&mut self, unit: u16, core: u16) {
+        self.grants[self.granted] = (unit, core);
+        self.granted += 1;
     }
 
     fn refused(answer: u8) -> Outcome {
@@ -206,10 +286,7 @@ impl Table {
             first: unit,
             second: 0,
         };
-        self.enter(unit, c, ticket);
-        let mut outcome = Outcome::of(0, ticket);
-        self.settle(unit, &mut outcome);
-        outcome
+        self.enter(unit, c, ticket, Outcome::of(0, ticket))
     }
 
     fn nest(&mut self, c: usize, unit: u16) -> Outcome {
@@ -225,10 +302,7 @@ impl Table {
         }
         self.core[c].state = State::WaitingSecond;
         self.core[c].second = unit;
-        self.enter(unit, c, core.own);
-        let mut outcome = Outcome::of(0, core.carried);
-        self.settle(unit, &mut outcome);
-        outcome
+        self.enter(unit, c, core.own, Outcome::of(0, core.carried))
     }
 
     /// A poll makes no register invalid, so nothing is left to settle after it.
@@ -259,15 +333,19 @@ impl Table {
     /// at the first unit now, and gives it. What was carried before is let go.
     fn inherit(&mut self, c: usize) -> u16 {
         let core = self.core[c];
-        let mut carried = core.own;
-        // Taking each older one in turn ends at the oldest, or at the own one.
-        for register in &self.unit[core.first as usize][..self.cores as usize] {
-            if register.valid && !register.flag && older(register.ticket, carried) {
-                carried = register.ticket;
-            }
+        let next = self.unit[core.first as usize].next;
+        let carried = if next.valid && older(next.ticket, core.own) {
+            next.ticket
+        } else {
+            core.own
+        };
+        if carried != core.carried {
+            self.core[c].carried = carried;
+            let cores = self.cores as usize;
+            let unit = &mut self.unit[core.second as usize];
+            unit[c].ticket = carried;
+            unit.next = Next::passed(&unit.registers[..cores]);
         }
-        self.core[c].carried = carried;
-        self.unit[core.second as usize][c].ticket = carried;
         carried
     }
 
@@ -294,10 +372,7 @@ impl Table {
             return Outcome::refused(12);
         }
         self.core[c].state = State::Waiting;
-        self.enter(core.first, c, core.own);
-        let mut outcome = Outcome::of(0, core.own);
-        self.settle(core.first, &mut outcome);
-        outcome
+        self.enter(core.first, c, core.own, Outcome::of(0, core.own))
     }
 
     fn release(&mut self, c: usize) -> Outcome {
@@ -311,12 +386,28 @@ impl Table {
         self.give_up(c, &core, two, core.own)
     }
 
-    fn enter(&mut self, unit: u16, c: usize, ticket: u16) {
-        self.unit[unit as usize][c] = Register {
+    /// Only the unit that is entered may have something to grant: nobody waits at one
+    /// that no one has, so that who enters such a one has it at once.
+    fn enter(&mut self, unit: u16, c: usize, ticket: u16, mut outcome: Outcome) -> Outcome {
+        let entered = &mut self.unit[unit as usize];
+        let next = entered.next;
+        entered[c] = Register {
             ticket,
             valid: true,
-            flag: false,
+            flag: !next.held,
         };
+        if !next.held {
+            entered.next.held = true;
+            outcome.grant(unit, c as u16);
+        } else if !next.valid || older(ticket, next.ticket) {
+            entered.next = Next {
+                ticket,
+                core: c as u16,
+                valid: true,
+                held: true,
+            };
+        }
+        outcome
     }
 
     /// Frees what `core` stood at, both units before settling. A second unit
@@ -334,26 +425,19 @@ impl Table {
         outcome
     }
 
-    /// Only the units a step touched need this: the others were settled before.
+    /// Sees from the registers who is next at the unit, and grants it to that one
+    /// where nobody has it. Only the units that were left need this: the others were
+    /// settled before.
     fn settle(&mut self, unit: u16, outcome: &mut Outcome) {
-        let registers = &mut self.unit[unit as usize][..self.cores as usize];
-        let mut oldest: Option<(usize, u16)> = None;
-        for (c, register) in registers.iter().enumerate() {
-            if register.flag {
-                return;
-            }
-            if register.valid {
-                match oldest {
-                    Some((_, ticket)) if !older(register.ticket, ticket) => {}
-                    _ => oldest = Some((c, register.ticket)),
-                }
-            }
+        let cores = self.cores as usize;
+        let touched = &mut self.unit[unit as usize];
+        let mut next = Next::passed(&touched.registers[..cores]);
+        if next.valid && !next.held {
+            touched[next.core as usize].flag = true;
+            outcome.grant(unit, next.core);
+            next = Next::passed(&touched.registers[..cores]);
         }
-        if let Some((c, _)) = oldest {
-            registers[c].flag = true;
-            outcome.grants[outcome.granted] = (unit, c as u16);
-            outcome.granted += 1;
-        }
+        touched.next = next;
     }
 
     pub fn sound(&self) -> bool {
@@ -367,10 +451,14 @@ impl Table {
         self.core[cores..].iter().all(|core| *core == blank_core)
             && self.unit[units..]
                 .iter()
-                .flatten()
+                .flat_map(|unit| &unit.registers)
                 .all(|register| *register == blank)
             && (0..cores).all(|c| self.core_sound(c))
             && (0..units).all(|u| self.unit_sound(u))
+            && self
+                .unit
+                .iter()
+                .all(|unit| unit.next == Next::of(&unit.registers))
     }
 
     /// Ticket, names of units and class of one core.
@@ -415,7 +503,7 @@ impl Table {
     fn unit_sound(&self, u: usize) -> bool {
         let mut valid = 0;
         let mut flags = 0;
-        for (register, core) in self.unit[u].iter().zip(&self.core) {
+        for (register, core) in self.unit[u].registers.iter().zip(&self.core) {
             let at_first = core.first as usize == u;
             let at_second = core.second as usize == u;
             // The ticket to show and whether the flag has to be set.
@@ -600,6 +688,252 @@ mod tests {
         make(&mut table, Request, 2, 1);
         make(&mut table, Request, 1, 0);
         assert_eq!(make(&mut table, Leave, 0, 0), (0, 0, vec![(0, 1), (1, 2)]));
+    }
+
+    fn nobody(held: bool) -> Next {
+        Next {
+            held,
+            ..Next::default()
+        }
+    }
+
+    /// Behind a holder.
+    fn waits(ticket: u16, core: u16) -> Next {
+        Next {
+            ticket,
+            core,
+            valid: true,
+            held: true,
+        }
+    }
+
+    /// Document 01's run, and who is next at its two units after each step.
+    #[test]
+    fn next_through_the_run() {
+        let mut table = Table::fresh(3, 1, 1, 65_535).unwrap();
+        assert_eq!(table.unit, [Unit::default(); MAX_UNITS]);
+        for (kind, core, unit, answer, first, second) in [
+            (Request, 0, 1, 0, nobody(false), nobody(true)),
+            (Poll, 0, 0, 1, nobody(false), nobody(true)),
+            (Request, 2, 0, 0, nobody(true), nobody(true)),
+            (Request, 1, 0, 0, waits(1, 1), nobody(true)),
+            // Core 2 had the flag: core 1 has it now.
+            (Interrupt, 2, 0, 0, nobody(true), nobody(true)),
+            (Poll, 1, 0, 1, nobody(true), nobody(true)),
+            (Nest, 1, 1, 0, nobody(true), waits(1, 1)),
+            (Continue, 2, 0, 0, waits(0, 2), waits(1, 1)),
+            // Inherits 0.
+            (Poll, 1, 0, 2, waits(0, 2), waits(0, 1)),
+            (Interrupt, 0, 0, 14, waits(0, 2), waits(0, 1)),
+            (Leave, 0, 0, 0, waits(0, 2), nobody(true)),
+            (Poll, 1, 0, 1, waits(0, 2), nobody(true)),
+            (Leave, 1, 0, 0, nobody(true), nobody(false)),
+        ] {
+            assert_eq!(make(&mut table, kind, core, unit).0, answer);
+            let next = [table.unit[0].next, table.unit[1].next];
+            assert_eq!(next, [first, second], "{kind:?} {core}");
+            assert_eq!(table.unit[2..], [Unit::default(); 14]);
+        }
+    }
+
+    /// One unit, at which cores go and come in all ways. Tickets 65534, 65535, 0, 1.
+    #[test]
+    fn next_at_one_unit() {
+        let mut table = Table::fresh(4, 1, 0, 65_534).unwrap();
+        for (kind, core, next) in [
+            (Request, 3, nobody(true)),
+            (Request, 1, waits(65_535, 1)),
+            // Younger ones change nothing.
+            (Request, 0, waits(65_535, 1)),
+            (Request, 2, waits(65_535, 1)),
+            // One that is not next goes away, and comes back.
+            (Interrupt, 0, waits(65_535, 1)),
+            (Continue, 0, waits(65_535, 1)),
+            // The next one goes, and then the one next after it.
+            (Interrupt, 1, waits(0, 0)),
+            (Interrupt, 0, waits(1, 2)),
+            (Continue, 0, waits(0, 0)),
+            (Continue, 1, waits(65_535, 1)),
+            // The flag goes to the next one, and to the one next after it.
+            (Interrupt, 3, waits(0, 0)),
+            (Continue, 3, waits(65_534, 3)),
+            (Poll, 1, waits(65_534, 3)),
+            (Leave, 1, waits(0, 0)),
+            (Poll, 3, waits(0, 0)),
+            (Leave, 3, waits(1, 2)),
+            (Interrupt, 2, nobody(true)),
+            (Interrupt, 0, nobody(false)),
+            (Continue, 2, nobody(true)),
+        ] {
+            make(&mut table, kind, core, 0);
+            assert_eq!(table.unit[0].next, next, "{kind:?} {core}");
+        }
+    }
+
+    /// What a core carries makes it next at its second unit, and no longer once it
+    /// is given back. Core 3 holds unit 2; cores 0 and 1 hold units 0 and 1.
+    #[test]
+    fn next_by_an_inherited_ticket() {
+        let mut table = Table::fresh(5, 2, 1, 10).unwrap();
+        make(&mut table, Request, 2, 1); // 10
+        make(&mut table, Interrupt, 2, 0);
+        for (core, unit) in [(3, 2), (0, 0), (1, 1)] {
+            make(&mut table, Request, core, unit); // 11, 12, 13
+            make(&mut table, Poll, core, 0);
+        }
+        make(&mut table, Nest, 1, 2);
+        assert_eq!(table.unit[2].next, waits(13, 1));
+        make(&mut table, Nest, 0, 2);
+        assert_eq!(table.unit[2].next, waits(12, 0));
+        make(&mut table, Continue, 2, 0);
+        assert_eq!(table.unit[1].next, waits(10, 2));
+        assert_eq!(table.unit[2].next, waits(12, 0));
+        make(&mut table, Poll, 1, 0);
+        assert_eq!(table.unit[2].next, waits(10, 1));
+        make(&mut table, Interrupt, 2, 0);
+        assert_eq!(table.unit[1].next, nobody(true));
+        assert_eq!(table.unit[2].next, waits(10, 1));
+        make(&mut table, Poll, 1, 0);
+        assert_eq!(table.unit[2].next, waits(12, 0));
+        // Both units of a release: core 4 stands behind core 0 at the first.
+        make(&mut table, Request, 4, 0); // 14
+        assert_eq!(make(&mut table, Leave, 3, 0).2, [(2, 0)]);
+        assert_eq!(table.unit[2].next, waits(13, 1));
+        make(&mut table, Poll, 0, 0);
+        assert_eq!(make(&mut table, Leave, 0, 0).2, [(0, 4), (2, 1)]);
+        assert_eq!(table.unit[0].next, nobody(true));
+        assert_eq!(table.unit[2].next, nobody(true));
+    }
+
+    /// Core 0 holds unit 0 with 5, cores 1 and 2 wait with 6 and 7; core 1 is next.
+    #[test]
+    fn another_next_is_16() {
+        let mut table = Table::fresh(3, 1, 1, 5).unwrap();
+        for core in 0..3 {
+            make(&mut table, Request, core, 0);
+        }
+        make(&mut table, Poll, 0, 0);
+        assert_eq!(table.unit[0].next, waits(6, 1));
+        for (unit, next) in [
+            (0, waits(7, 1)),
+            (0, waits(6, 2)),
+            (0, waits(6, 65_535)),
+            (
+                0,
+                Next {
+                    valid: false,
+                    ..waits(6, 1)
+                },
+            ),
+            (
+                0,
+                Next {
+                    held: false,
+                    ..waits(6, 1)
+                },
+            ),
+            (0, nobody(true)),
+            (0, nobody(false)),
+            (0, waits(5, 0)),
+            (0, waits(7, 2)),
+            (1, nobody(true)),
+            (1, waits(6, 1)),
+            (
+                1,
+                Next {
+                    valid: true,
+                    ..nobody(false)
+                },
+            ),
+            (
+                1,
+                Next {
+                    ticket: 6,
+                    ..nobody(false)
+                },
+            ),
+            (
+                1,
+                Next {
+                    core: 1,
+                    ..nobody(false)
+                },
+            ),
+            (2, nobody(true)),
+            (
+                15,
+                Next {
+                    core: 1,
+                    ..nobody(false)
+                },
+            ),
+        ] {
+            let mut wrong = table.clone();
+            wrong.unit[unit].next = next;
+            for kind in [Request, Nest, Poll, Interrupt, Continue, Leave] {
+                let mut left = wrong.clone();
+                let core = 9;
+                let outcome = left.step_any(Step {
+                    kind,
+                    core,
+                    unit: 0,
+                });
+                assert_eq!(outcome, Outcome::refused(16), "{unit} {next:?}");
+                assert_eq!(left, wrong);
+            }
+        }
+    }
+
+    /// The registers of one unit, by ticket and flag, and who is next by them.
+    #[test]
+    fn next_of_any_registers() {
+        let register = |(ticket, flag)| Register {
+            ticket,
+            valid: true,
+            flag,
+        };
+        for (line, next) in [
+            (vec![], nobody(false)),
+            (vec![(5, true)], nobody(true)),
+            (
+                vec![(5, false)],
+                Next {
+                    held: false,
+                    ..waits(5, 0)
+                },
+            ),
+            (vec![(5, true), (7, false), (6, false)], waits(6, 2)),
+            (
+                vec![(0, true), (1, false), (65_535, false)],
+                waits(65_535, 2),
+            ),
+            (vec![(7, true), (5, false), (5, false)], nobody(true)),
+            (
+                vec![(7, true), (5, false), (4, false), (5, false)],
+                waits(4, 2),
+            ),
+            (vec![(7, true), (5, false), (32_773, false)], nobody(true)),
+            (vec![(7, true), (5, false), (32_772, false)], waits(5, 1)),
+            (
+                vec![(7, true), (5, false), (32_774, false)],
+                waits(32_774, 2),
+            ),
+            (
+                vec![(0, false), (21_845, false), (43_690, false)],
+                nobody(false),
+            ),
+            (
+                vec![(43_690, false), (7, true), (21_845, false), (0, false)],
+                nobody(true),
+            ),
+            (
+                vec![(0, true), (21_845, false), (43_690, false)],
+                waits(21_845, 1),
+            ),
+        ] {
+            let registers: Vec<Register> = line.into_iter().map(register).collect();
+            assert_eq!(Next::of(&registers), next, "{registers:?}");
+        }
     }
 
     #[test]

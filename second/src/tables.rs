@@ -2,9 +2,14 @@
 //! registers, images.
 
 use crate::cases;
+use crate::lines::{self, Kinds};
 use crate::make::{any_counts, edge_counter, Maker};
 use crate::rng::Rng;
-use crate::table::{older, Core, Kind, Register, State, Step, Table, Unit, MAX_CORES, MAX_UNITS};
+use crate::table::{
+    counts_in_range, older, Core, Kind, Next, Register, State, Step, Table, Unit, MAX_CORES,
+    MAX_UNITS,
+};
+use crate::words;
 
 const STATES: [State; 6] = [
     State::Idle,
@@ -103,10 +108,12 @@ fn built(rng: &mut Rng) -> Table {
     }
     stand(&mut table);
     fix_flags(rng, &mut table);
+    lines::set_right(&mut table);
     table
 }
 
 /// Sets every register of every core as its state says, flags of holders only.
+/// Nobody is next in line then, whoever waits.
 fn stand(table: &mut Table) {
     table.unit = [Unit::default(); MAX_UNITS];
     for (c, core) in table.core.iter().enumerate() {
@@ -137,7 +144,7 @@ fn stand(table: &mut Table) {
 fn fix_flags(rng: &mut Rng, table: &mut Table) {
     for unit in &mut table.unit {
         let valid: Vec<usize> = (0..MAX_CORES).filter(|c| unit[*c].valid).collect();
-        if !valid.is_empty() && unit.iter().all(|register| !register.flag) {
+        if !valid.is_empty() && unit.registers.iter().all(|register| !register.flag) {
             unit[rng.pick(&valid)].flag = true;
         }
     }
@@ -223,12 +230,76 @@ fn unblank(rng: &mut Rng, register: &mut Register) {
     }
 }
 
-/// Number of ways to break a table.
-pub const WAYS: u64 = 26;
+/// Number of ways to break a table: of those that leave the next in line aside, then
+/// those that make one wrong, and last those that leave it without an oldest.
+const ASIDE: u64 = 26;
+const DISORDER: u64 = ASIDE + lines::WRONG;
+pub const WAYS: u64 = DISORDER + lines::DISORDERS.len() as u64;
 
 /// Breaks one clause of soundness where the table has a place for it. Some
 /// changes leave it sound, so that both sides of an edge are met.
 fn break_table(rng: &mut Rng, table: &mut Table, way: u64) -> Option<()> {
+    if way < ASIDE {
+        break_aside(rng, table, way)?;
+        // The registers are others now: mostly that shall break no other clause.
+        if rng.chance(85) {
+            lines::set_right(table);
+        }
+        return Some(());
+    }
+    if way >= DISORDER {
+        return disorder(rng, table, lines::DISORDERS[(way - DISORDER) as usize]);
+    }
+    let mut places: Vec<(usize, Next)> = Vec::new();
+    for (u, unit) in table.unit.iter().enumerate() {
+        let next = lines::wrong(rng, &unit.registers, way - ASIDE);
+        places.extend(next.map(|next| (u, next)));
+    }
+    if places.is_empty() {
+        return None;
+    }
+    let (u, next) = rng.pick(&places);
+    table.unit[u].next = next;
+    Some(())
+}
+
+/// Gives cores that wait at one unit tickets of which none need be the oldest, in
+/// their registers as well. Nobody is next then, or one of them.
+fn disorder(rng: &mut Rng, table: &mut Table, kind: &str) -> Option<()> {
+    let waiting =
+        |unit: &Unit| -> Vec<usize> { (0..MAX_CORES).filter(|c| unit[*c].waits()).collect() };
+    let places: Vec<usize> = (0..MAX_UNITS)
+        .filter(|u| waiting(&table.unit[*u]).len() > 1)
+        .collect();
+    if places.is_empty() {
+        return None;
+    }
+    let u = rng.pick(&places);
+    let cores = waiting(&table.unit[u]);
+    let base = any_ticket(rng, table);
+    for (c, ticket) in cores.iter().zip(lines::disorder(rng, base, kind)) {
+        table.unit[u][*c].ticket = ticket;
+        if table.core[*c].first as usize == u {
+            table.core[*c].own = ticket;
+        }
+        table.core[*c].carried = ticket;
+    }
+    lines::set_right(table);
+    if rng.chance(50) {
+        let core = rng.pick(&cores);
+        let unit = &mut table.unit[u];
+        unit.next = Next {
+            ticket: unit[core].ticket,
+            core: core as u16,
+            valid: true,
+            held: unit.next.held,
+        };
+    }
+    Some(())
+}
+
+/// Breaks a clause that is not about the next in line, which is left as it was.
+fn break_aside(rng: &mut Rng, table: &mut Table, way: u64) -> Option<()> {
     let cores = table.cores as usize;
     let units = table.units() as usize;
     let first_class = table.first_class;
@@ -329,7 +400,7 @@ fn break_table(rng: &mut Rng, table: &mut Table, way: u64) -> Option<()> {
         10 => {
             // The flag goes to another core at the same unit.
             let u = rng.index(units);
-            let from = table.unit[u].iter().position(|r| r.flag)?;
+            let from = table.unit[u].registers.iter().position(|r| r.flag)?;
             let to = some_core(rng, table, |c, _| c != from && table.unit[u][c].valid)?;
             table.unit[u][from].flag = false;
             table.unit[u][to].flag = true;
@@ -455,7 +526,7 @@ fn break_table(rng: &mut Rng, table: &mut Table, way: u64) -> Option<()> {
 
 fn flip(rng: &mut Rng, table: &mut Table) {
     let bit = 1 << rng.below(16);
-    match rng.below(3) {
+    match rng.below(4) {
         0 => {
             let at = rng.below(4);
             let number = match at {
@@ -474,6 +545,15 @@ fn flip(rng: &mut Rng, table: &mut Table) {
                 2 => core.first ^= bit,
                 3 => core.second ^= bit,
                 _ => core.state = rng.pick(&STATES),
+            }
+        }
+        2 => {
+            let next = &mut table.unit[rng.index(MAX_UNITS)].next;
+            match rng.below(4) {
+                0 => next.ticket ^= bit,
+                1 => next.core ^= bit,
+                2 => next.valid = !next.valid,
+                _ => next.held = !next.held,
             }
         }
         _ => {
@@ -576,23 +656,103 @@ fn any_word(rng: &mut Rng) -> u32 {
     }
 }
 
-/// Counts, mostly in range, and the number of words: right or near it.
+/// Counts, mostly in range, and the number of words: right or near it, or that of
+/// the registers alone.
 fn extent(rng: &mut Rng) -> ([u16; 3], u16) {
     let mut counts = any_counts(rng);
-    let product =
-        |counts: [u16; 3]| (counts[1] as u64 + counts[2] as u64).saturating_mul(counts[0] as u64);
     if rng.chance(20) {
         counts[rng.index(3)] = rng.pick(&[0, 0, 9, 9, 10, 16, 256, 32_768, 65_535]);
     }
-    let right = product(counts);
-    let number = match rng.below(10) {
+    let [cores, first_class, second_class] = counts.map(u64::from);
+    let registers = (first_class + second_class).saturating_mul(cores);
+    let right = registers + first_class + second_class;
+    let number = match rng.below(12) {
         0 => right + 1,
         1 => right.saturating_sub(1),
         2 => rng.below(cases::WORDS_MAX as u64 + 1),
-        3 => 128,
+        3 => 144,
+        4 | 5 => registers,
         _ => right,
     };
     (counts, number.min(cases::WORDS_MAX as u64) as u16)
+}
+
+/// An image to read. The number of words says whether each unit has the word after
+/// its cores'; now and then it stands before them.
+fn any_image(rng: &mut Rng, counts: [u16; 3], number: usize) -> Vec<u32> {
+    let cores = (counts[0] as usize).clamp(1, MAX_CORES);
+    let units = counts[1] as usize + counts[2] as usize;
+    let bare = number == units * cores;
+    let before = rng.chance(8);
+    let wrong = if rng.chance(50) {
+        rng.index(units.clamp(1, 16))
+    } else {
+        usize::MAX
+    };
+    let mut words = Vec::new();
+    for u in 0..=number / cores {
+        let registers = lines::any(rng, cores, good_register);
+        let due = words::next_word(&Next::of(&registers));
+        let next = if u == wrong {
+            lines::wrong_word(rng, &registers, due)
+        } else {
+            due
+        };
+        if before && !bare {
+            words.push(next);
+        }
+        words.extend(registers.iter().map(|r| words::pack(*r).expect("good")));
+        if !before && !bare {
+            words.push(next);
+        }
+    }
+    words.truncate(number);
+    if number > 0 && rng.chance(15) {
+        words[rng.index(number)] = any_word(rng);
+    }
+    words
+}
+
+/// Units to write. Past the counts stands anything, or nothing.
+fn any_units(rng: &mut Rng, counts: [u16; 3]) -> [Unit; MAX_UNITS] {
+    let cores = (counts[0] as usize).min(MAX_CORES);
+    let count = (counts[1] as usize + counts[2] as usize).min(MAX_UNITS);
+    let junk = rng.chance(50);
+    let mut units = [Unit::default(); MAX_UNITS];
+    for (u, unit) in units.iter_mut().enumerate() {
+        let inside = if u < count { cores } else { 0 };
+        unit.registers[..inside].copy_from_slice(&lines::any(rng, inside, good_register));
+        if junk {
+            unit.registers[inside..].fill_with(|| any_register(rng));
+        }
+        unit.next = Next::of(&unit.registers[..inside]);
+        if junk && inside == 0 {
+            unit.next = Next {
+                ticket: rng.draw() as u16,
+                core: rng.below(9) as u16,
+                valid: rng.chance(50),
+                held: rng.chance(50),
+            };
+        }
+    }
+    if cores > 0 && count > 0 {
+        let unit = &mut units[rng.index(count)];
+        match rng.below(10) {
+            0..=3 => {
+                let ways = (0..3)
+                    .map(|_| rng.below(lines::WRONG))
+                    .collect::<Vec<u64>>();
+                let mut found = ways
+                    .iter()
+                    .filter_map(|way| lines::wrong(rng, &unit.registers[..cores], *way));
+                unit.next = found.next().unwrap_or(unit.next);
+            }
+            4 | 5 => unit.next = Next::of(&unit.registers),
+            6 => unit[rng.index(cores)] = any_register(rng),
+            _ => {}
+        }
+    }
+    units
 }
 
 /// A number of `count` cores or units, or one past them.
@@ -623,23 +783,28 @@ fn any_step(rng: &mut Rng, table: &Table) -> Step {
     Step { kind, core, unit }
 }
 
-/// Puts one case of `M`, and gives its step. Four tables in five are sound.
-pub fn put_method(rng: &mut Rng, case: &mut Vec<u8>) -> Step {
+/// Puts one case of `M`, counts its kind, and gives its step. Four tables in five
+/// are sound.
+pub fn put_method(rng: &mut Rng, case: &mut Vec<u8>, kinds: &mut Kinds) -> Step {
     let table = match rng.below(12) {
         0..=3 => reached(rng),
         4..=8 => built(rng),
         _ => any_table(rng),
     };
     let step = any_step(rng, &table);
+    lines::count_table(kinds, 'M', &table);
     cases::put_method(case, &table, step);
     step
 }
 
-/// Puts one case of any letter but `T` and `M`, and gives its letter.
-pub fn put_any(rng: &mut Rng, case: &mut Vec<u8>) -> u8 {
-    match rng.below(10) {
+/// Puts one case of any letter but `T` and `M`, counts its kind, and gives its
+/// letter.
+pub fn put_any(rng: &mut Rng, case: &mut Vec<u8>, kinds: &mut Kinds) -> u8 {
+    match rng.below(12) {
         0..=4 => {
-            cases::put_table(case, &any_table(rng));
+            let table = any_table(rng);
+            lines::count_table(kinds, 'S', &table);
+            cases::put_table(case, &table);
             b'S'
         }
         5 => {
@@ -650,34 +815,22 @@ pub fn put_any(rng: &mut Rng, case: &mut Vec<u8>) -> u8 {
             cases::put_pack(case, &any_register(rng));
             b'P'
         }
-        7 => {
+        7..=9 => {
             let (counts, number) = extent(rng);
-            let mut words: Vec<u32> = (0..number).map(|_| good_word(rng)).collect();
-            if number > 0 && rng.chance(40) {
-                words[rng.index(number as usize)] = any_word(rng);
+            let words = any_image(rng, counts, number as usize);
+            if counts_in_range(counts[0], counts[1], counts[2]) {
+                lines::count_reading(kinds, counts, &words);
             }
             cases::put_read_image(case, counts, &words);
             b'I'
         }
         _ => {
             let (counts, room) = extent(rng);
-            let (cores, units) = (counts[0] as usize, counts[1] as usize + counts[2] as usize);
-            let junk = rng.chance(50);
-            let mut registers = [Unit::default(); MAX_UNITS];
-            for (u, unit) in registers.iter_mut().enumerate() {
-                for (c, register) in unit.iter_mut().enumerate() {
-                    if u < units && c < cores {
-                        *register = good_register(rng);
-                    } else if junk {
-                        *register = any_register(rng);
-                    }
-                }
+            let units = any_units(rng, counts);
+            if counts_in_range(counts[0], counts[1], counts[2]) {
+                lines::count_writing(kinds, counts, room, &units);
             }
-            if rng.chance(40) && cores > 0 && units > 0 {
-                let u = rng.index(units.min(MAX_UNITS));
-                registers[u][rng.index(cores.min(MAX_CORES))] = any_register(rng);
-            }
-            cases::put_write_image(case, counts, room, &registers);
+            cases::put_write_image(case, counts, room, &units);
             b'O'
         }
     }
@@ -714,6 +867,22 @@ mod tests {
                 }
             }
             assert!(broken > 20, "way {way}: placed {placed}, broken {broken}");
+        }
+    }
+
+    /// As many cases as the comparison asks every kind of next in line of.
+    #[test]
+    fn every_kind_of_next_is_put() {
+        let mut rng = Rng::new(6, 0);
+        let (mut case, mut kinds) = (Vec::new(), Kinds::default());
+        for _ in 0..20_000 {
+            put_any(&mut rng, &mut case, &mut kinds);
+            put_method(&mut rng, &mut case, &mut kinds);
+            case.clear();
+        }
+        for kind in lines::needed() {
+            let count = kinds.get(&kind).copied().unwrap_or_default();
+            assert!(count > 5, "{kind}: {count} of {kinds:?}");
         }
     }
 }

@@ -1,6 +1,6 @@
 //! Register words and table images.
 
-use crate::table::{counts_in_range, Register, Unit, MAX_UNITS};
+use crate::table::{counts_in_range, Next, Register, Unit, MAX_UNITS};
 
 const VALID: u32 = 1 << 16;
 const FLAG: u32 = 1 << 17;
@@ -28,16 +28,26 @@ pub fn pack(register: Register) -> Option<u32> {
     Some(register.ticket as u32 | VALID | if register.flag { FLAG } else { 0 })
 }
 
+/// Ticket and validity; the core and whether the unit is held do not show.
+pub fn next_word(next: &Next) -> u32 {
+    if next.valid {
+        next.ticket as u32 | VALID
+    } else {
+        0
+    }
+}
+
 /// Number of units and of words of an image, or refusal 20.
 fn extent(cores: u16, first_class: u16, second_class: u16) -> Result<(usize, usize), u8> {
     if !counts_in_range(cores, first_class, second_class) {
         return Err(20);
     }
     let units = (first_class + second_class) as usize;
-    Ok((units, units * cores as usize))
+    Ok((units, units * (cores as usize + 1)))
 }
 
-/// The units' registers; what is past the counts stays blank.
+/// The units' registers and who is next at each; what is past the counts stays
+/// blank.
 pub fn read_image(
     cores: u16,
     first_class: u16,
@@ -48,10 +58,15 @@ pub fn read_image(
     if words.len() != length {
         return Err(30);
     }
+    let cores = cores as usize;
     let mut units = [Unit::default(); MAX_UNITS];
-    for (unit, words) in units.iter_mut().zip(words.chunks_exact(cores as usize)) {
-        for (register, word) in unit.iter_mut().zip(words) {
+    for (unit, words) in units.iter_mut().zip(words.chunks_exact(cores + 1)) {
+        for (register, word) in unit.registers.iter_mut().zip(&words[..cores]) {
             *register = unpack(*word).ok_or(30)?;
+        }
+        unit.next = Next::of(&unit.registers[..cores]);
+        if words[cores] != next_word(&unit.next) {
+            return Err(30);
         }
     }
     Ok(units)
@@ -66,16 +81,20 @@ pub fn write_image(
     room: &mut [u32],
 ) -> Result<(), u8> {
     let (count, length) = extent(cores, first_class, second_class)?;
-    let registers = || {
-        units[..count]
-            .iter()
-            .flat_map(|unit| &unit[..cores as usize])
+    let cores = cores as usize;
+    let writable = |unit: &Unit| {
+        let registers = &unit.registers[..cores];
+        registers.iter().all(|register| pack(*register).is_some())
+            && unit.next == Next::of(registers)
     };
-    if room.len() != length || registers().any(|register| pack(*register).is_none()) {
+    if room.len() != length || !units[..count].iter().all(writable) {
         return Err(30);
     }
-    for (word, register) in room.iter_mut().zip(registers()) {
-        *word = pack(*register).ok_or(30)?;
+    for (words, unit) in room.chunks_exact_mut(cores + 1).zip(units) {
+        for (word, register) in words[..cores].iter_mut().zip(&unit.registers) {
+            *word = pack(*register).ok_or(30)?;
+        }
+        words[cores] = next_word(&unit.next);
     }
     Ok(())
 }
@@ -127,44 +146,177 @@ mod tests {
         );
     }
 
+    fn waiting(ticket: u16) -> Register {
+        Register {
+            ticket,
+            valid: true,
+            flag: false,
+        }
+    }
+
+    fn holding(ticket: u16) -> Register {
+        Register {
+            flag: true,
+            ..waiting(ticket)
+        }
+    }
+
+    /// Document 01's run after its tenth step: at unit 0 core 1 holds with ticket 1
+    /// and core 2 waits with 0; at unit 1 core 0 holds with 65535 and core 1 waits,
+    /// with 0 by inheritance.
+    const RUN: [u32; 8] = [0, 196_609, 65_536, 65_536, 262_143, 65_536, 0, 65_536];
+
+    #[test]
+    fn the_run() {
+        let units = read_image(3, 1, 1, &RUN).unwrap();
+        assert_eq!(
+            units[0].registers[..3],
+            [Register::default(), holding(1), waiting(0)]
+        );
+        assert_eq!(
+            units[1].registers[..3],
+            [holding(65_535), waiting(0), Register::default()]
+        );
+        let next = |core| Next {
+            ticket: 0,
+            core,
+            valid: true,
+            held: true,
+        };
+        assert_eq!((units[0].next, units[1].next), (next(2), next(1)));
+        assert_eq!(units[2..], [Unit::default(); 14]);
+        let mut room = [7; 8];
+        assert_eq!(write_image(3, 1, 1, &units, &mut room), Ok(()));
+        assert_eq!(room, RUN);
+        // Each word changed in each bit. A holder's ticket may be any, and core 1 may
+        // wait with ticket 1 behind core 2; with 65535 core 0 were ahead of core 1.
+        for at in 0..8 {
+            for bit in 0..32 {
+                let mut words = RUN;
+                words[at] ^= 1 << bit;
+                let good = matches!((at, bit), (1 | 4, 0..=15) | (1, 17));
+                let read = read_image(3, 1, 1, &words);
+                assert_eq!(read.is_ok(), good, "word {at} bit {bit}");
+                assert!(good || read == Err(30));
+            }
+        }
+        // The words without the last of each unit.
+        let without = [0, 196_609, 65_536, 262_143, 65_536, 0];
+        assert_eq!(read_image(3, 1, 1, &without), Err(30));
+        // One unit with its last word, without it, and with it before the cores'.
+        let read = |words: &[u32]| read_image(2, 1, 0, words).is_ok();
+        assert!(read(&[65_541, 196_612, 65_541]));
+        assert!(!read(&[65_541, 196_612]));
+        assert!(!read(&[65_541, 65_541, 196_612]));
+    }
+
+    /// One unit's words for the cores, and the one that has to come after them.
+    #[test]
+    fn next_words() {
+        let waits = |tickets: &[u32]| tickets.iter().map(|t| t | VALID).collect::<Vec<u32>>();
+        for (cores, next) in [
+            (vec![0, 0, 0], 0),
+            (waits(&[7]), 65_543),
+            (vec![196_608, 0, 0], 0),
+            // Older than all, by whichever place.
+            (waits(&[5, 6, 7]), 65_541),
+            (waits(&[7, 5, 6]), 65_541),
+            (waits(&[6, 7, 5]), 65_541),
+            (waits(&[0, 65_535, 1]), 131_071),
+            (waits(&[32_767, 0]), 65_536),
+            // The oldest has its flag set.
+            (vec![196_613, 65_542, 65_543], 65_542),
+            // Held twice; an image need not be of a sound table.
+            (vec![196_613, 196_614, 65_543], 65_543),
+            // The same, and half the circle apart: no one is older.
+            (waits(&[5, 5]), 0),
+            (waits(&[0, 32_768]), 0),
+            (waits(&[5, 32_773, 6]), 0),
+            (waits(&[6, 5, 5]), 0),
+            (waits(&[10, 32_778, 1]), 0),
+            // A third that is older than the two that are the same.
+            (waits(&[6, 5, 6]), 65_541),
+            // Each older than the one after it, and the last than the first.
+            (waits(&[0, 21_845, 43_690]), 0),
+            (waits(&[43_690, 21_845, 0]), 0),
+            // Without one of the three.
+            (vec![65_536, 65_536 + 21_845, 196_608 + 43_690], 65_536),
+            (
+                vec![65_536, 196_608 + 21_845, 65_536 + 43_690],
+                65_536 + 43_690,
+            ),
+            // Older than two of a circle, not than the third.
+            (waits(&[0, 21_845, 43_690, 65_535]), 0),
+        ] {
+            let count = cores.len() as u16;
+            for other in [0, 1, 5, 65_536, 65_541, 65_542, 131_072, 196_608, 1 << 18]
+                .into_iter()
+                .chain(cores.clone())
+                .chain([next, next ^ FLAG, next ^ VALID, next ^ VALID ^ FLAG])
+            {
+                let words = [&cores[..], &[other]].concat();
+                let read = read_image(count, 1, 0, &words);
+                assert_eq!(read.is_ok(), other == next, "{words:?}");
+                if let Ok(units) = read {
+                    let mut room = vec![7; words.len()];
+                    assert_eq!(write_image(count, 1, 0, &units, &mut room), Ok(()));
+                    assert_eq!(room, words);
+                }
+            }
+        }
+    }
+
     #[test]
     fn images() {
-        let mut words: Vec<u32> = (0..6).map(|n| VALID | n).collect();
-        words[3] = 0;
+        let words = [
+            65_536, 65_537, 65_536, 65_538, 0, 65_538, 65_540, 65_541, 65_540,
+        ];
         let units = read_image(2, 1, 2, &words).unwrap();
-        assert_eq!(
-            units[1][0],
-            Register {
-                ticket: 2,
-                valid: true,
-                flag: false
-            }
-        );
-        assert_eq!(units[1][1], Register::default());
-        let mut room = [7; 6];
+        assert_eq!(units[1].registers[..2], [waiting(2), Register::default()]);
+        let next = Next {
+            ticket: 4,
+            core: 0,
+            valid: true,
+            held: false,
+        };
+        assert_eq!(units[2].next, next);
+        let mut room = [7; 9];
         assert_eq!(write_image(2, 1, 2, &units, &mut room), Ok(()));
-        assert_eq!(room[..], words[..]);
+        assert_eq!(room, words);
 
-        assert_eq!(read_image(2, 1, 2, &words[..5]), Err(30));
+        assert_eq!(read_image(2, 1, 2, &words[..8]), Err(30));
         assert_eq!(read_image(2, 1, 9, &words), Err(20));
         assert_eq!(read_image(0, 1, 1, &[]), Err(20));
-        words[5] = 5;
-        assert_eq!(read_image(2, 1, 2, &words), Err(30));
+        let mut bad = words;
+        bad[7] = 5;
+        assert_eq!(read_image(2, 1, 2, &bad), Err(30));
 
-        let mut units = units;
-        units[0][2].flag = true; // past the counts
-        units[3][0].ticket = 9;
-        assert_eq!(write_image(2, 1, 2, &units, &mut room), Ok(()));
-        units[2][1] = Register {
-            ticket: 1,
-            valid: false,
-            flag: false,
-        };
-        let mut room = [7; 6];
-        assert_eq!(write_image(2, 1, 2, &units, &mut room), Err(30));
-        assert_eq!(room, [7; 6]);
+        let mut past = units;
+        past[0][2] = holding(65_535); // past the counts
+        past[3][0].ticket = 9;
+        past[4].next.core = 3;
+        assert_eq!(write_image(2, 1, 2, &past, &mut room), Ok(()));
+        assert_eq!(room, words);
+        let mut room = [7; 9];
+        past[0].next = Next::of(&past[0].registers); // of a core past the counts
+        assert_eq!(write_image(2, 1, 2, &past, &mut room), Err(30));
+        let mut ill = units;
+        ill[1][1].ticket = 1;
+        assert_eq!(write_image(2, 1, 2, &ill, &mut room), Err(30));
+        for change in [
+            |next: &mut Next| next.ticket = 5,
+            |next: &mut Next| next.core = 1,
+            |next: &mut Next| next.valid = false,
+            |next: &mut Next| next.held = true,
+            |next: &mut Next| *next = Next::default(),
+        ] {
+            let mut wrong = units;
+            change(&mut wrong[2].next);
+            assert_eq!(write_image(2, 1, 2, &wrong, &mut room), Err(30));
+        }
+        assert_eq!(room, [7; 9]);
         assert_eq!(write_image(9, 1, 2, &units, &mut room), Err(20));
-        units[2][1] = Register::default();
-        assert_eq!(write_image(2, 1, 2, &units, &mut room[..5]), Err(30));
+        assert_eq!(write_image(2, 1, 2, &units, &mut room[..8]), Err(30));
+        assert_eq!(write_image(2, 1, 2, &units, &mut [7; 6]), Err(30));
     }
 }

@@ -1,6 +1,7 @@
-// Images: words read as registers, and registers written as words.
+// Images: words read as units, and units written as words.
 use crate::bytes::half;
 use crate::bytes::word;
+use crate::next::put_next;
 use crate::register::put_register;
 use crate::table::counts;
 use crate::table::units;
@@ -9,9 +10,7 @@ use crate::text::head;
 use images::ImageAnswer;
 use parts::CORES;
 use parts::LockUnit;
-use parts::Register;
 use parts::UNITS;
-use parts::blank;
 ghost use mathlib.Core.Path.{_≡_};
 ghost use lib.ListN.{length};
 
@@ -68,42 +67,41 @@ fn reading(s: &[u8], ws: &mut [u32], out: &mut [u8], wrote: usize) -> usize {
         return to;
     }
     let units = x.units;
-    put_registers(out, to, units, c.cores as usize, ws.len())
+    let each = half(s, 1) as usize + 1;
+    put_image(out, to, units, each, ws.len())
 }
 
-// The first n registers of an image, in its order.
-fn put_registers(
-    out: &mut [u8],
-    at: usize,
-    units: [LockUnit; UNITS],
-    cores: usize,
-    n: usize,
-) -> usize {
+// What the first n words of an image say, in its order, where a unit has so many words each.
+fn put_image(out: &mut [u8], at: usize, units: [LockUnit; UNITS], each: usize, n: usize) -> usize {
     let mut to = at;
     let mut i = 0;
     while i < n {
-        let r = register_at(units, cores, i);
-        to = put_register(out, to, r);
+        to = put_place(out, to, units, each, i);
         i += 1;
     }
     to
 }
 
-// Register i of an image; a blank one where there is none.
-fn register_at(units: [LockUnit; UNITS], cores: usize, i: usize) -> Register {
-    if cores == 0 {
-        return blank();
+// What word i of an image says: a register, and last in each unit its next in line.
+fn put_place(out: &mut [u8], at: usize, units: [LockUnit; UNITS], each: usize, i: usize) -> usize {
+    if each == 0 {
+        return at;
     }
-    let u = i / cores;
-    let k = i % cores;
+    let u = i / each;
+    let k = i % each;
     if UNITS <= u {
-        return blank();
-    }
-    if CORES <= k {
-        return blank();
+        return at;
     }
     let x = units[u];
-    x.registers[k]
+    if k == each - 1 {
+        let n = x.next;
+        return put_next(out, at, n);
+    }
+    if CORES <= k {
+        return at;
+    }
+    let r = x.registers[k];
+    put_register(out, at, r)
 }
 
 pub(crate) fn answer_writing(s: &[u8], out: &mut [u8], wrote: usize) -> usize {

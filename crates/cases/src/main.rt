@@ -2,8 +2,9 @@
 // with the second implementation.
 //
 // A case is a letter and what follows it. A u16 or u32 has its lowest byte first; a register is a u16
-// ticket, a u8 valid and a u8 flag, each of these 0 or not; an answer is one line, its fields parted by
-// tabs, but for T.
+// ticket, a u8 valid and a u8 flag, each of these 0 or not; a unit is 8 registers and its next in line,
+// which is a u16 ticket, a u16 core, a u8 valid and a u8 held; an answer is one line, its fields parted
+// by tabs, but for T.
 // - T: u16 length, and so many bytes of script. Answered with what the translator program writes for
 //   that script, and a line `--`.
 // - B: u16 bytes lent, u16 length, and so many bytes of script: one call of the translation, from the
@@ -12,16 +13,17 @@
 //   number; then for 40 the line and the field, for 0 the steps that agreed, for any other the line.
 // - S: a table. u16 cores, first-class units, second-class units and counter; 8 cores of u16 own,
 //   carried, first and second and u8 state (0 idle, 1 waiting, 2 holding, 3 waiting second, 4 holding
-//   both, from 5 on away); 16 units of 8 registers. `S`, and 1 if it is sound, else 0.
+//   both, from 5 on away); 16 units. `S`, and 1 if it is sound, else 0.
 // - M: a step by a method of the table. The table as in S; u8 letter (0 R, 1 N, 2 P, 3 I, 4 C, from 5 on
 //   L), u16 core and u16 unit, which R and N alone read. `M`, the answer's number, ticket, number of
 //   grants, unit and core of each; and the table handed back, its numbers in the order of S.
 // - W: u32, a register word. `W`, 30; or `W`, 0, ticket, valid and flag.
 // - P: a register. `P`, 30; or `P`, 0 and its word.
 // - I: u16 cores, first-class units, second-class units and number of words, at most 200; the words, a
-//   u32 each. `I`, 20 or 30; or `I`, 0, and ticket, valid and flag of each register of the image.
-// - O: u16 cores, first-class units, second-class units and number of words lent, at most 200; 16 units
-//   of 8 registers. `O`, 20 or 30; or `O`, 0, and the image's words.
+//   u32 each. `I`, 20 or 30; or `I`, 0, and for each unit of the image ticket, valid and flag of each of
+//   its registers, and ticket, core, valid and held of its next in line.
+// - O: u16 cores, first-class units, second-class units and number of words lent, at most 200; 16
+//   units. `O`, 20 or 30; or `O`, 0, and the image's words.
 // - H, L and E: a line by `write_header`, `write_step` or `write_expected`, into lent bytes which each
 //   hold `.`. u16 number of bytes lent, at most 64, and u16 place. Then for H, u16 cores, first-class
 //   units, second-class units and counter; for L, the step as in M; for E, u32 step number, u8 answer
@@ -35,6 +37,7 @@ mod bytes;
 mod image;
 mod logged;
 mod methods;
+mod next;
 mod register;
 mod scripts;
 mod table;
@@ -190,10 +193,10 @@ fn size(s: &[u8]) -> usize {
         return 3 + half(s, 1) as usize;
     }
     if letter == b'S' {
-        return 593;
+        return 689;
     }
     if letter == b'M' {
-        return 598;
+        return 694;
     }
     if letter == b'W' {
         return 5;
@@ -205,7 +208,7 @@ fn size(s: &[u8]) -> usize {
         return image_size(s, 9 + 4 * half(s, 7) as usize);
     }
     if letter == b'O' {
-        return image_size(s, 521);
+        return image_size(s, 617);
     }
     writers_size(letter, half(s, 1) as usize)
 }

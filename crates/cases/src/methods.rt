@@ -1,6 +1,7 @@
 // A step by a method of the table, and the table that it hands back.
 use crate::bytes::byte;
 use crate::bytes::half;
+use crate::next::put_next;
 use crate::register::put_register;
 use crate::table::table;
 use crate::text::field;
@@ -22,9 +23,9 @@ use ticket::UnitNo;
 pub(crate) fn answer(s: &[u8], out: &mut [u8], wrote: usize) -> usize {
     let x = stepped(
         table(s),
-        byte(s, 593),
-        CoreNo(half(s, 594)),
-        UnitNo(half(s, 596)),
+        byte(s, 689),
+        CoreNo(half(s, 690)),
+        UnitNo(half(s, 692)),
     );
     let a = x.answer;
     let to = head(out, wrote, b"M", parts::number(a) as u32);
@@ -145,6 +146,12 @@ fn put_units(out: &mut [u8], at: usize, units: [LockUnit; UNITS]) -> usize {
 }
 
 fn put_unit(out: &mut [u8], at: usize, x: LockUnit) -> usize {
+    let to = put_registers(out, at, x);
+    let n = x.next;
+    put_next(out, to, n)
+}
+
+fn put_registers(out: &mut [u8], at: usize, x: LockUnit) -> usize {
     let mut to = at;
     let mut k = 0;
     while k < CORES {

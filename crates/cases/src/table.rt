@@ -1,6 +1,7 @@
 // A table as it stands in a case, and whether it is sound.
 use crate::bytes::byte;
 use crate::bytes::half;
+use crate::next::next;
 use crate::register::register;
 use crate::text::bit;
 use crate::text::head;
@@ -97,14 +98,24 @@ pub(crate) fn units(s: &[u8], from: usize) -> [LockUnit; UNITS]
     let mut xs = [x; UNITS];
     let mut u = 0;
     while u < UNITS {
-        xs[u] = unit(s, from + 32 * u);
+        xs[u] = unit(s, from + 38 * u);
         u += 1;
     }
     xs
 }
 
-// The unit at a place: eight registers.
+// The unit at a place: eight registers, and after them the next in line.
 fn unit(s: &[u8], at: usize) -> LockUnit
+    requires { ⌜ at < 1024 ⌝ }
+{
+    let mut x = registers(s, at);
+    let n = next(s, at + 32);
+    x.next = n;
+    x
+}
+
+// A unit with the eight registers at a place.
+fn registers(s: &[u8], at: usize) -> LockUnit
     requires { ⌜ at < 1024 ⌝ }
 {
     let mut x = empty_unit();

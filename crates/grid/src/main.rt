@@ -10,6 +10,8 @@ use parts::Counts;
 use parts::Grants;
 use parts::Register;
 use parts::Step;
+use parts::next_in_line;
+use parts::showing;
 use ticket::CoreNo;
 use ticket::Grant;
 use ticket::Ticket;
@@ -173,8 +175,25 @@ fn stretched(counter: u16) {
     request(t, CoreNo(1), UnitNo(0));
 }
 
-// Each letter on a table whose blank register shows a ticket.
+// Each letter on tables that are not sound: a blank register shows a ticket, and next in line is
+// nobody's ticket, nobody though core 0 waits, and the core that has the flag.
 fn unsound() {
+    refused(ticket_in_blank());
+    refused(next_in(begin(), 0, 0, true, false));
+    refused(next_in(waiting(), 0, 0, false, true));
+    refused(next_in(unpolled(), 65534, 0, true, true));
+}
+
+fn refused(t: Table) {
+    request(t, CoreNo(0), UnitNo(0));
+    nest(t, CoreNo(0), UnitNo(2));
+    poll(t, CoreNo(0));
+    interrupt(t, CoreNo(0));
+    come_back(t, CoreNo(0));
+    release(t, CoreNo(0));
+}
+
+fn ticket_in_blank() -> Table {
     let mut t = begin();
     let mut x = t.units[0];
     x.registers[0] = Register {
@@ -183,12 +202,16 @@ fn unsound() {
         flag: false,
     };
     t.units[0] = x;
-    request(t, CoreNo(0), UnitNo(0));
-    nest(t, CoreNo(0), UnitNo(2));
-    poll(t, CoreNo(0));
-    interrupt(t, CoreNo(0));
-    come_back(t, CoreNo(0));
-    release(t, CoreNo(0));
+    t
+}
+
+// The table with another next in line at unit 0.
+fn next_in(table: Table, ticket: u16, core: u16, valid: bool, held: bool) -> Table {
+    let mut t = table;
+    let x = t.units[0];
+    let v = next_in_line(Ticket(ticket), CoreNo(core), valid, held);
+    t.units[0] = showing(x, v);
+    t
 }
 
 // Counts at and past the ends of their ranges.

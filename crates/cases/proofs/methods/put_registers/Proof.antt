@@ -1,10 +1,10 @@
--- `cases::methods::put_unit` is safe and ends: the registers that are left fall.
+-- `cases::methods::put_registers` is safe and ends: the registers that are left fall.
 use Prim.Native.Nat.{_-_}
 use mathlib.Core.Path.{_≡_}
 use lib.ListN.{length}
 use borrow.Author.Needs.{needs}
-use Rattle.cases.proofs.methods.put_unit.Statement.{statement}
-use Rattle.cases.proofs.methods.put_unit.Tie as tie
+use Rattle.cases.proofs.methods.put_registers.Statement.{statement}
+use Rattle.cases.proofs.methods.put_registers.Tie as tie
 
 abbrev Inv-loop : tie.InvT-loop
 Inv-loop out₀ at x to₀ k₀ out to k = length out ≡ length out₀
@@ -39,8 +39,8 @@ same-length c = search needs
 returns : tie.Need-returns Inv-loop μ-loop
 returns c = search needs
 
-pub put-unit-spec : {M : Type 1} → statement M
-put-unit-spec =
+pub put-registers-spec : {M : Type 1} → statement M
+put-registers-spec =
     tie.close
     (tie.spec
     Inv-loop

@@ -1,8 +1,8 @@
--- `cases::table::unit` is safe and ends: the registers that are left fall.
+-- `cases::table::registers` is safe and ends: the registers that are left fall.
 use Prim.Native.Nat.{_-_}
 use borrow.Author.Needs.{needs}
-use Rattle.cases.proofs.table.unit.Statement.{statement}
-use Rattle.cases.proofs.table.unit.Tie as tie
+use Rattle.cases.proofs.table.registers.Statement.{statement}
+use Rattle.cases.proofs.table.registers.Tie as tie
 
 abbrev Inv-loop : tie.InvT-loop
 Inv-loop s at x₀ k₀ x k = Unit {0}
@@ -46,8 +46,8 @@ loop-again c = search needs
 returns : tie.Need-returns Inv-loop μ-loop
 returns c = search needs
 
-pub unit-spec : {M : Type 1} → statement M
-unit-spec =
+pub registers-spec : {M : Type 1} → statement M
+registers-spec =
     tie.close
     (tie.spec
     Inv-loop
