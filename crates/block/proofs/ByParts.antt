@@ -9,7 +9,7 @@ use mathlib.Core.Path.{_≡_, refl, sym, _∙_, ap, subst}
 use native.Mathlib.Omega.{arith}
 use lib.Dec.{eqb, ltb}
 use lib.ListN.{getD, set}
-use lib.Seq.{getD-set-other, set-getD, set-set, set-comm}
+use lib.Seq.{getD-set-other, set-getD, set-comm}
 use borrow.Author.Tests.{ltb-true, ltb-false, le-leb, eq-eqb, ne-eqb}
 use Rattle.ticket.specs.Order.{compare, Window}
 use Rattle.ticket.specs.declared.kinds.CoreNo.{CoreNo}
@@ -35,20 +35,21 @@ use Rattle.refusals.specs.Judge.{unless, noCore, judge}
 use Rattle.refusals.specs.declared.verdict.Verdict.{Verdict}
 use Rattle.refusals.specs.declared.verdict.Verdict.the-variants.{Allowed, Refused}
 use Rattle.settling.specs.Line.{inLine, next, stored, won}
-use Rattle.settling.specs.Settle.{leave, carry}
+use Rattle.settling.specs.Settle.{enter, carry, changed}
+use Rattle.settling.specs.declared.settle.Change.{Change}
 use Rattle.settling.specs.declared.line.Best.{Best}
 use Rattle.settling.specs.declared.line.Best.the-variants.{Nobody}
-use Rattle.settling.specs.declared.settle.Settled.{Settled}
-use Rattle.effects.specs.Effect.{makes, hold, inherit, wait, stepEffect}
+use Rattle.effects.specs.Effect.{makes, inherit, wait, stepEffect}
 use Rattle.effects.specs.declared.kinds.Move.{Move}
 use Rattle.effects.specs.declared.kinds.Move.the-variants.{Enter, GiveUp}
 use Rattle.effects.specs.declared.kinds.Effect.{Effect}
-use Rattle.plan.specs.Plan.{refuse, withUnits, entered, givenUp, carryOut, decided, planStep}
+use Rattle.plan.specs.Plan.{partOf, staying, refuse, withChanges, entered, leaves, givenUp, carryOut, decided, planStep}
+use Rattle.plan.specs.declared.planning.Part.{Part}
 use Rattle.plan.specs.declared.planning.Plan.{Plan}
 use Rattle.block.specs.Table.{coreOf, unitOf, registerOf, withRegister, withCore, withCounter, Shaped}
 use Rattle.block.specs.Sound.{sound}
 use Rattle.block.specs.Steps.{verdict, awaited, effectOn, affected, moves, settled, performed, refusal, answered, onSound}
-use Rattle.block.specs.PutBack.{putBack}
+use Rattle.block.specs.PutBack.{changedAt, putBack}
 use Rattle.block.specs.declared.table.Table.{Table}
 use Rattle.block.specs.declared.stepped.Stepped.{Stepped}
 use Rattle.parts.proofs.Bools.{and-left, or-cases}
@@ -60,7 +61,7 @@ use Rattle.block.proofs.Almost.{Almost}
 use Rattle.block.proofs.Columns.{sound-almost}
 use Rattle.block.proofs.Kept.{moves-almost}
 use Rattle.block.proofs.Oldest.{shown-recent, shown-apart, oldest-nobody}
-use Rattle.block.proofs.Touched.{QuietTable, settledOne, freedTwo, settledUnit}
+use Rattle.block.proofs.Touched.{QuietTable, settledOne, freedTwo, Settled, settledUnit, settledBy}
 use Rattle.block.proofs.Touching.{settled-none, settled-one, settled-two}
 use Rattle.block.proofs.Settling.{there, changes, frees}
 use Rattle.block.proofs.Standing.{no-and, bare, bare-one, sound-quiet}
@@ -71,12 +72,21 @@ use Rattle.block.proofs.Answering.{cores-in, request-in, nest-in, poll-
 
 -- What is put back
 
-both-same : (us : List LockUnit) (i j : ℕ) → set (set us j (getD us j absentUnit)) i (getD us i absentUnit) ≡ us
-both-same us i j = ap (λ (l : List LockUnit). set l i (getD us i absentUnit)) (set-getD us j absentUnit) ∙ set-getD us i absentUnit
+-- a unit that stays as it was read
+module _ (n : ℕ) (k : CoreNo) where
+  stayed : (x : LockUnit) → changed n k (staying (partOf (k .0) x)) x ≡ x
+  stayed x = ap (λ (l : List Register). record { registers = l; next = x .next }) (set-getD (x .registers) (k .0) blank)
 
-first-same : (us : List LockUnit) (i j : ℕ) (y : LockUnit) → i ≢ j → set (set us j y) i (getD us i absentUnit) ≡ set us j y
-first-same us i j y d =
-    ap (set (set us j y) i) (sym (getD-set-other us j i y absentUnit d)) ∙ set-getD (set us j y) i absentUnit
+  unit-stays : (us : List LockUnit) (u : ℕ) → changedAt n k u (staying (partOf (k .0) (getD us u absentUnit))) us ≡ us
+  unit-stays us u = ap (set us u) (stayed (getD us u absentUnit)) ∙ set-getD us u absentUnit
+
+  -- another changed before
+  other-stays :
+      (us : List LockUnit) (i j : ℕ) (y : LockUnit) → i ≢ j →
+      changedAt n k i (staying (partOf (k .0) (getD us i absentUnit))) (set us j y) ≡ set us j y
+  other-stays us i j y d =
+      ap (λ (x : LockUnit). changedAt n k i (staying (partOf (k .0) x)) (set us j y)) (sym (getD-set-other us j i y absentUnit d)) ∙
+      unit-stays (set us j y) i
 
 module _ (t : Table) (k : CoreNo) where
   -- a step's end, by its units
@@ -89,50 +99,46 @@ module _ (t : Table) (k : CoreNo) where
         grants = g;
       }
 
-  -- the table with these units
-  abbrev allUnits : List LockUnit → Table
-  allUnits us = record { units = us; cores = t .cores; counts = t .counts; counter = t .counter }
-
   -- a refused step
-  nothing :
-      (i j : UnitNo) (a : Answer) →
-      putBack t k i j (refuse a (t .counter) (coreOf t (k .0)) (unitOf t (i .0)) (unitOf t (j .0))) ≡ refusal t a
-  nothing i j a =
-      ap (λ (l : List LockUnit). refusal (withCore (allUnits l) (k .0) (coreOf t (k .0))) a) (both-same (t .units) (i .0) (j .0)) ∙
-      ap (λ (z : Table). refusal z a) (same-core t (k .0))
-
-  -- the units as they were read
-  quiet :
-      (i j : UnitNo) (e : Effect) →
-      putBack t k i j (withUnits e (unitOf t (i .0)) (unitOf t (j .0)) None) ≡ ended (t .units) e None
-  quiet i j e = ap (λ (l : List LockUnit). ended l e None) (both-same (t .units) (i .0) (j .0))
+  nothing : (i j : UnitNo) (a : Answer) (x y : Part) → putBack t k i j (refuse a (t .counter) (coreOf t (k .0)) x y) ≡ refusal t a
+  nothing i j a x y = ap (λ (z : Table). refusal z a) (same-core t (k .0))
 
   -- the one unit, at both places, where the register of core k became r
   abbrev oneSettled : UnitNo → Register → Settled
   oneSettled u r = settledUnit (registered (unitOf t (u .0)) (k .0) r)
 
+  -- what is read of a unit, and how it settles by what became of it
+  abbrev read : UnitNo → Part
+  read u = partOf (k .0) (unitOf t (u .0))
+
+  abbrev bySettling : Change → UnitNo → Settled
+  bySettling a u = settledBy (t .counts .cores) k a (unitOf t (u .0))
+
   one-put :
-      (u : UnitNo) (r : Register) (b : Core) (d : Move) (n m : Ticket) (y : LockUnit) (s : Settled) →
-      s ≡ oneSettled u r →
-      putBack t k u u (withUnits (makes b d Done n m) (s .unit) y (packed (won (u .0) (s .winner)))) ≡
+      (u : UnitNo) (r : Register) (b : Core) (d : Move) (n m : Ticket) (a : Change) →
+      bySettling a u ≡ oneSettled u r →
+      putBack t k u u (withChanges (makes b d Done n m) a (staying (read u)) (packed (won (u .0) (a .winner))) true) ≡
       settledOne (withCore (withRegister (withCounter t m) (u .0) (k .0) r) (k .0) b) u Done n
-  one-put u r b d n m y s es =
-      ap (λ (l : List LockUnit). ended l (makes b d Done n m) (packed (won (u .0) (s .winner)))) (set-set (t .units) (u .0) y (s .unit)) ∙
-      changes (withCounter t m) (k .0) b u r Done n s es
+  one-put u r b d n m a es =
+      ap (λ (l : List LockUnit). ended (changedAt (t .counts .cores) k (u .0) a l) (makes b d Done n m) (packed (won (u .0) (a .winner))))
+      (unit-stays (t .counts .cores) k (t .units) (u .0)) ∙
+      changes (withCounter t m) (k .0) b u r Done n (bySettling a u) es
 
   -- two units, of which core k gave up its registers
   two-put :
-      (u v : UnitNo) (b : Core) (d : Move) (n : Ticket) (s z : Settled) →
+      (u v : UnitNo) (b : Core) (d : Move) (n : Ticket) (a z : Change) →
       u .0 < v .0 →
-      s ≡ oneSettled u blank →
-      z ≡ oneSettled v blank →
-      putBack t k u v (withUnits (makes b d Done n (t .counter)) (s .unit) (z .unit) (packed (won (u .0) (s .winner) ++ won (v .0) (z .winner)))) ≡
+      bySettling a u ≡ oneSettled u blank →
+      bySettling z v ≡ oneSettled v blank →
+      putBack t k u v (withChanges (makes b d Done n (t .counter)) a z (packed (won (u .0) (a .winner) ++ won (v .0) (z .winner))) true) ≡
       freedTwo t (k .0) b u v n
-  two-put u v b d n s z l es ez =
+  two-put u v b d n a z l es ez =
       ap
-      (λ (us : List LockUnit). ended us (makes b d Done n (t .counter)) (packed (won (u .0) (s .winner) ++ won (v .0) (z .winner))))
-      (sym (set-comm (t .units) (u .0) (v .0) (s .unit) (z .unit) (λ e. omega arith))) ∙
-      frees t (k .0) b u v n s z l es ez
+      (λ (us : List LockUnit). ended us (makes b d Done n (t .counter)) (packed (won (u .0) (a .winner) ++ won (v .0) (z .winner))))
+      (ap (λ (x : LockUnit). set (changedAt (t .counts .cores) k (v .0) z (t .units)) (u .0) (changed (t .counts .cores) k a x))
+      (getD-set-other (t .units) (v .0) (u .0) _ absentUnit (λ e. omega arith)) ∙
+      sym (set-comm (t .units) (u .0) (v .0) (bySettling a u .unit) (bySettling z v .unit) (λ e. omega arith))) ∙
+      frees t (k .0) b u v n (bySettling a u) (bySettling z v) l es ez
 
 -- the tickets in line at a unit of a table between its moves and its settling
 module _ (t : Table) (a : Almost t) (u : ℕ) (h : u < units) (y : LockUnit) (is : unitOf t u ≡ y) where
@@ -196,10 +202,10 @@ module _ (t : Table) (shaped : Shaped t) (ok : sound t ≡ true) (k : CoreNo) (w
       abbrev enters : Effect
       enters = makes b (Enter u q) Done q m
 
-      entering : (y : LockUnit) → putBack t k u u (entered enters k u q (unitOf t (u .0)) y) ≡ settled (affected t (k .0) enters) Done q
-      entering y =
+      entering : putBack t k u u (entered enters k u q (read t k u) (read t k u)) ≡ settled (affected t (k .0) enters) Done q
+      entering =
           let z = there (t .units) (u .0) (k .0) (standing q) in
-          one-put t k u (standing q) b (Enter u q) q m y _
+          one-put t k u (standing q) b (Enter u q) q m (enter (unitOf t (u .0) .next) k q)
           (enter-settles n (unitOf t (u .0)) k few (past (u .0) h) (shaped .registers-long (u .0) h) within (parts t ok .unit (u .0) h .oneFlag)
           (parts t ok .unit (u .0) h .next) (none (u .0) h) q (m .0)
           (line-recent (affected t (k .0) enters) moved-almost (u .0) h _ z)
@@ -212,15 +218,15 @@ module _ (t : Table) (shaped : Shaped t) (ok : sound t ≡ true) (k : CoreNo) (w
           two ≡ false →
           let i = inUnits u in
           let j = cond two (inUnits (c .second)) (inUnits u) in
-          putBack t k i j (entered enters k u q (unitOf t (i .0)) (unitOf t (j .0))) ≡ settled (affected t (k .0) enters) Done q
+          putBack t k i j (entered enters k u q (read t k i) (read t k j)) ≡ settled (affected t (k .0) enters) Done q
       enter-here two one =
           ap
           (λ (a : Bool).
           let j = cond a (inUnits (c .second)) (inUnits u) in
-          putBack t k (inUnits u) j (entered enters k u q (unitOf t (inUnits u .0)) (unitOf t (j .0))))
+          putBack t k (inUnits u) j (entered enters k u q (read t k (inUnits u)) (read t k j)))
           one ∙
-          ap (λ (i : UnitNo). putBack t k i i (entered enters k u q (unitOf t (i .0)) (unitOf t (i .0)))) (unit-itself u h) ∙
-          entering (unitOf t (u .0))
+          ap (λ (i : UnitNo). putBack t k i i (entered enters k u q (read t k i) (read t k i))) (unit-itself u h) ∙
+          entering
 
   -- Giving up
 
@@ -236,7 +242,7 @@ module _ (t : Table) (shaped : Shaped t) (ok : sound t ≡ true) (k : CoreNo) (w
         let shown = simp (at, same) at agrees in
         and-left (r .valid) (eqb (r .ticket .0) (c .own .0)) (and-left (r .valid && eqb (r .ticket .0) (c .own .0)) _ shown)
 
-    left-first : leave n (unitOf t (c .first .0)) k ≡ oneSettled t k (c .first) blank
+    left-first : bySettling t k (leaves (read t k (c .first)) k) (c .first) ≡ oneSettled t k (c .first) blank
     left-first =
         leave-settles n (unitOf t (c .first .0)) k few (past (c .first .0) first-in-table) (shaped .registers-long (c .first .0) first-in-table) within
         (parts t ok .unit (c .first .0) first-in-table .oneFlag) (parts t ok .unit (c .first .0) first-in-table .next)
@@ -255,7 +261,7 @@ module _ (t : Table) (shaped : Shaped t) (ok : sound t ≡ true) (k : CoreNo) (w
           let shown = simp (at, other, two, same) at agrees in
           and-left (r .valid) (eqb (r .ticket .0) (c .carried .0)) (and-left (r .valid && eqb (r .ticket .0) (c .carried .0)) _ shown)
 
-      left-second : leave n (unitOf t (c .second .0)) k ≡ oneSettled t k (c .second) blank
+      left-second : bySettling t k (leaves (read t k (c .second)) k) (c .second) ≡ oneSettled t k (c .second) blank
       left-second =
           leave-settles n (unitOf t (c .second .0)) k few (past (c .second .0) (second-in-table .1))
           (shaped .registers-long (c .second .0) (second-in-table .1)) within
@@ -263,40 +269,44 @@ module _ (t : Table) (shaped : Shaped t) (ok : sound t ≡ true) (k : CoreNo) (w
           (none (c .second .0) (second-in-table .1)) second-valid
 
     module _ (b : Core) (q : Ticket) where
-      abbrev leaves : Effect
-      leaves = makes b GiveUp Done q (t .counter)
+      abbrev going : Effect
+      going = makes b GiveUp Done q (t .counter)
 
       leave-here :
           let i = inUnits (c .first) in
           let j = cond (twoStage (c .state)) (inUnits (c .second)) (inUnits (c .first)) in
-          putBack t k i j (givenUp leaves n k c (unitOf t (i .0)) (unitOf t (j .0))) ≡ settled (affected t (k .0) leaves) Done q
+          putBack t k i j (givenUp going k c (read t k i) (read t k j)) ≡ settled (affected t (k .0) going) Done q
       leave-here = go (twoStage (c .state)) refl
         where
-          one-left : UnitNo → LockUnit → Plan
-          one-left i y = let s = leave n (unitOf t (i .0)) k in withUnits leaves (s .unit) y (packed (won (c .first .0) (s .winner)))
+          one-left : UnitNo → Plan
+          one-left i =
+              let a = leaves (read t k i) k in withChanges going a (staying (read t k i)) (packed (won (c .first .0) (a .winner))) true
 
           two-left : UnitNo → UnitNo → Plan
           two-left i j =
-              let s = leave n (unitOf t (i .0)) k in
-              let z = leave n (unitOf t (j .0)) k in
-              withUnits leaves (s .unit) (z .unit) (packed (won (c .first .0) (s .winner) ++ won (c .second .0) (z .winner)))
+              let a = leaves (read t k i) k in
+              let z = leaves (read t k j) k in
+              withChanges going a z (packed (won (c .first .0) (a .winner) ++ won (c .second .0) (z .winner))) true
 
           go :
               (two : Bool) →
               twoStage (c .state) ≡ two →
               let i = inUnits (c .first) in
               let j = cond two (inUnits (c .second)) (inUnits (c .first)) in
-              putBack t k i j (cond two (two-left i j) (one-left i (unitOf t (j .0)))) ≡ settled (affected t (k .0) leaves) Done q
+              let a = leaves (read t k i) k in
+              putBack t k i j
+              (cond two (two-left i j) (withChanges going a (staying (read t k j)) (packed (won (c .first .0) (a .winner))) true)) ≡
+              settled (affected t (k .0) going) Done q
           go true two =
               let b2 = second-in-table two in
               ap (λ (i : UnitNo). putBack t k i (inUnits (c .second)) (two-left i (inUnits (c .second)))) (unit-itself (c .first) first-in-table) ∙
               ap (λ (j : UnitNo). putBack t k (c .first) j (two-left (c .first) j)) (unit-itself (c .second) (b2 .1)) ∙
-              two-put t k (c .first) (c .second) b GiveUp q _ _ (b2 .0) left-first (left-second two) ∙
+              two-put t k (c .first) (c .second) b GiveUp q (leaves (read t k (c .first)) k) (leaves (read t k (c .second)) k) (b2 .0) left-first (left-second two) ∙
               settled-two (withCore (twoCleared t (k .0)) (k .0) b) (c .first) (c .second) Done q (b2 .0) (b2 .1) (two-quiet t (k .0) small ok at) ∙
               ap (λ (z : Table). settled (withCounter (withCore z (k .0) b) (t .counter)) Done q) (sym (clears-two t (k .0) small ok at two))
           go false one =
-              ap (λ (i : UnitNo). putBack t k i i (one-left i (unitOf t (i .0)))) (unit-itself (c .first) first-in-table) ∙
-              one-put t k (c .first) blank b GiveUp q (t .counter) _ _ left-first ∙
+              ap (λ (i : UnitNo). putBack t k i i (one-left i)) (unit-itself (c .first) first-in-table) ∙
+              one-put t k (c .first) blank b GiveUp q (t .counter) (leaves (read t k (c .first)) k) left-first ∙
               settled-one (withCore (oneCleared t (k .0)) (k .0) b) (c .first) Done q first-in-table (one-quiet t (k .0) small ok at) ∙
               ap (λ (z : Table). settled (withCounter (withCore z (k .0) b) (t .counter)) Done q) (sym (clears-one t (k .0) small ok at one))
 
@@ -323,7 +333,7 @@ module _ (t : Table) (shaped : Shaped t) (ok : sound t ≡ true) (k : CoreNo) (w
     abbrev polled : Effect → Stepped
     polled e =
         putBack t k (c .first) (record { 0 = awaited c })
-        (carryOut e n k c (unitOf t (c .first .0)) (unitOf t (awaited c)))
+        (carryOut e k c (read t k (c .first)) (partOf (k .0) (unitOf t (awaited c))))
 
     quiet-all : QuietTable t
     quiet-all = sound-quiet t (parts t ok)
@@ -341,7 +351,7 @@ module _ (t : Table) (shaped : Shaped t) (ok : sound t ≡ true) (k : CoreNo) (w
         second-there : (c .first .0 < c .second .0) × (c .second .0 < units)
         second-there = second-in-table waits-at two
 
-        carry-is : record { unit = carry n (unitOf t (c .second .0)) k q; winner = Nobody } ≡ oneSettled t k (c .second) (standing q)
+        carry-is : record { unit = changed n k (carry (unitOf t (c .second .0) .next) k q) (unitOf t (c .second .0)); winner = Nobody } ≡ oneSettled t k (c .second) (standing q)
         carry-is =
             let h = second-there .1 in
             let z = there (t .units) (c .second .0) (k .0) (standing q) in
@@ -353,11 +363,12 @@ module _ (t : Table) (shaped : Shaped t) (ok : sound t ≡ true) (k : CoreNo) (w
             valid clear (shown-recent t almost (c .second .0) h (k .0) small valid)
 
         carried-on :
-            putBack t k (c .first) (c .second) (withUnits carries (unitOf t (c .first .0)) (carry n (unitOf t (c .second .0)) k q) None) ≡
+            putBack t k (c .first) (c .second)
+            (withChanges carries (staying (read t k (c .first))) (carry (unitOf t (c .second .0) .next) k q) None true) ≡
             settled (carrying t (k .0) q) NotYet q
         carried-on =
             let l = second-there .0 in
-            ap (λ (us : List LockUnit). ended t k us carries None) (first-same (t .units) (c .first .0) (c .second .0) _ (λ d. omega arith)) ∙
+            ap (λ (us : List LockUnit). ended t k us carries None) (other-stays n k (t .units) (c .first .0) (c .second .0) _ (λ d. omega arith)) ∙
             changes t (k .0) (carries .core) (c .second) (standing q) NotYet q _ carry-is ∙
             settled-one (carrying t (k .0) q) (c .second) NotYet q (second-there .1)
             (quiet-elsewhere t (c .second .0) (k .0) (standing q) quiet-all)
@@ -367,17 +378,18 @@ module _ (t : Table) (shaped : Shaped t) (ok : sound t ≡ true) (k : CoreNo) (w
         polled (effectOn t (P k)) ≡ settled (affected t (k .0) (effectOn t (P k))) (effectOn t (P k) .answer) (effectOn t (P k) .ticket)
     polls =
         poll-cases t k (λ (e : Effect). Almost (affected t (k .0) e) → polled e ≡ settled (affected t (k .0) e) (e .answer) (e .ticket))
-        (λ flag a. quiet t k (c .first) (record { 0 = awaited c }) (hold (t .counter) c) ∙ settled-none (holding t (k .0)) _ _ quiet-all)
+        (λ flag a. settled-none (holding t (k .0)) _ _ quiet-all)
         (λ flag two a.
         let q = inherited t c in
         let e = inherit (t .counter) c q in
         let at-second : awaited c ≡ c .second .0 = ap (λ (b : Bool). cond b (c .second .0) (c .first .0)) two in
         ap
-        (λ (v : ℕ). putBack t k (c .first) (record { 0 = v }) (withUnits e (unitOf t (c .first .0)) (carry n (unitOf t v) k q) None))
+        (λ (v : ℕ).
+        putBack t k (c .first) (record { 0 = v })
+        (withChanges e (staying (read t k (c .first))) (carry (unitOf t v .next) k q) None true))
         at-second ∙
         carried-on two q (awaited-second t (k .0) two flag) a)
         (λ flag one a.
-        quiet t k (c .first) (record { 0 = awaited c }) (wait (t .counter) c) ∙
         settled-none (affected t (k .0) (wait (t .counter) c)) _ _ (subst QuietTable (sym (same-core t (k .0))) quiet-all))
 
     -- what is read at the places is what the step reads
@@ -386,19 +398,19 @@ module _ (t : Table) (shaped : Shaped t) (ok : sound t ≡ true) (k : CoreNo) (w
         let i = inUnits (c .first) in
         let j = cond (twoStage (c .state)) (inUnits (c .second)) (inUnits (c .first)) in
         putBack t k i j
-        (carryOut (stepEffect (P k) (t .counter) c (registerIn (unitOf t (j .0)) (k .0) .flag) (stored (unitOf t (i .0)))) n k c (unitOf t (i .0)) (unitOf t (j .0))) ≡
+        (carryOut (stepEffect (P k) (t .counter) c (read t k j .register .flag) (stored (read t k i .next))) k c (read t k i) (read t k j)) ≡
         performed t (P k)
     poll-here a =
         ap
         (λ (i : UnitNo).
         let j = cond (twoStage (c .state)) (inUnits (c .second)) (inUnits (c .first)) in
         putBack t k i j
-        (carryOut (stepEffect (P k) (t .counter) c (registerIn (unitOf t (j .0)) (k .0) .flag) (stored (unitOf t (i .0)))) n k c (unitOf t (i .0)) (unitOf t (j .0))))
+        (carryOut (stepEffect (P k) (t .counter) c (read t k j .register .flag) (stored (read t k i .next))) k c (read t k i) (read t k j)))
         (unit-itself (c .first) first-there) ∙
         ap
         (λ (j : UnitNo).
         putBack t k (c .first) j
-        (carryOut (stepEffect (P k) (t .counter) c (registerIn (unitOf t (j .0)) (k .0) .flag) (stored (unitOf t (c .first .0)))) n k c (unitOf t (c .first .0)) (unitOf t (j .0))))
+        (carryOut (stepEffect (P k) (t .counter) c (read t k j .register .flag) (stored (read t k (c .first) .next))) k c (read t k (c .first)) (read t k j)))
         awaited-place ∙
         ap
         (λ (b : Best). polled (stepEffect (P k) (t .counter) c (registerOf t (awaited c) (k .0) .flag) b))
@@ -413,11 +425,9 @@ whole t s k v =
     let c = coreOf t (k .0) in
     let i = unitPlace s c in
     let j = otherPlace s c in
-    let x = unitOf t (i .0) in
-    let y = unitOf t (j .0) in
-    putBack t k i j
-    (decided v (t .counter) c x y
-    (carryOut (stepEffect s (t .counter) c (registerIn y (k .0) .flag) (stored x)) (t .counts .cores) k c x y))
+    let x = partOf (k .0) (unitOf t (i .0)) in
+    let y = partOf (k .0) (unitOf t (j .0)) in
+    putBack t k i j (decided v (t .counter) c x y (carryOut (stepEffect s (t .counter) c (y .register .flag) (stored (x .next))) k c x y))
 
 off : (b : Bool) (v : Verdict) → b ≡ true → unless b NoCore v ≡ Refused NoCore
 off true v e = refl
@@ -472,12 +482,17 @@ pub by-parts :
     let c = coreOf t (k .0) in
     let i = unitPlace s c in
     let j = otherPlace s c in
-    putBack t k i j (planStep s (t .counts) (t .counter) (t .cores) c (unitOf t (i .0)) (unitOf t (j .0))) ≡ onSound t s
+    putBack t k i j
+    (planStep s (t .counts) (t .counter) (t .cores) c (partOf (k .0) (unitOf t (i .0))) (partOf (k .0) (unitOf t (j .0)))) ≡
+    onSound t s
 unfolding planStep onSound
 by-parts t s shaped ok = go (ltb (whose s .0) cores) refl
   where
     put-back : (k : CoreNo) (a : Answer) → whole t s k (Refused a) ≡ refusal t a
-    put-back k a = nothing t k (unitPlace s (coreOf t (k .0))) (otherPlace s (coreOf t (k .0))) a
+    put-back k a =
+        let i = unitPlace s (coreOf t (k .0)) in
+        let j = otherPlace s (coreOf t (k .0)) in
+        nothing t k i j a (partOf (k .0) (unitOf t (i .0))) (partOf (k .0) (unitOf t (j .0)))
 
     judged : (v : Verdict) → verdict t s ≡ v → whole t s (whose s) v ≡ answered t v (performed t s)
     judged Allowed e = allowed t shaped ok s e

@@ -10,6 +10,10 @@ use Rattle.block.proofs.table.Table.poll.Reads as poll
 use Rattle.block.proofs.table.Table.interrupt.Reads as interrupt
 use Rattle.block.proofs.table.Table.come_back.Reads as come-back
 use Rattle.block.proofs.table.Table.release.Reads as release
+use Rattle.block.proofs.apart.rows_of.Reads as rows-of
+use Rattle.block.proofs.apart.nexts_of.Reads as nexts-of
+use Rattle.block.proofs.apart.unit_with.Reads as unit-with
+use Rattle.block.proofs.apart.gathered.Reads as gathered
 
 pub sound-determined : Determines sound.Post
 sound-determined κs a x y s t p q = p ∙ sym q
@@ -37,3 +41,15 @@ come-back-determined κs a x y s t p q = p ∙ sym q
 
 pub release-determined : Determines release.Post
 release-determined κs a x y s t p q = p ∙ sym q
+
+pub rows-of-determined : Determines rows-of.Post
+rows-of-determined κs a x y s t p q = p ∙ sym q
+
+pub nexts-of-determined : Determines nexts-of.Post
+nexts-of-determined κs a x y s t p q = p ∙ sym q
+
+pub unit-with-determined : Determines unit-with.Post
+unit-with-determined κs a x y s t p q = p ∙ sym q
+
+pub gathered-determined : Determines gathered.Post
+gathered-determined κs a x y s t p q = p ∙ sym q

@@ -24,19 +24,22 @@ use Rattle.soundness.specs.Agreement.{anyValid, oneFlag}
 use Rattle.settling.specs.Line.{flags, inLine, next, stored}
 use Rattle.settling.specs.Pairs.{isYounger}
 use Rattle.settling.specs.Shown.{shownAs, shown, showsNext}
-use Rattle.settling.specs.Settle.{lining, repicked, compared, isNext, enter, passed, leave, carry}
+use Rattle.settling.specs.Settle.{becomes, compared, isNext, enter, passed, leave, carry, given, changed}
 use Rattle.settling.specs.declared.line.Best.{Best}
 use Rattle.settling.specs.declared.line.Best.the-variants.{Nobody, Won}
-use Rattle.settling.specs.declared.settle.Settled.{Settled}
 use Rattle.parts.proofs.Along.{same-or-not}
 use Rattle.parts.proofs.Bools.{clash}
 use Rattle.parts.proofs.Folds.{at-some, some-none, count-some, count-unique, none-count}
 use Rattle.settling.proofs.Picking.{next-won, next-counted, next-nobody}
 use Rattle.settling.proofs.NextInLine.{stores, held-flags, stored-next, is-next, not-next, changed-here, changed-there, left-aside, left-other, joined-alone, joined-next, joined-own}
-use Rattle.block.proofs.Touched.{given, settledUnit}
+use Rattle.block.proofs.Touched.{Settled, settledUnit, settledBy}
 use Rattle.block.proofs.Touching.{still}
 use Rattle.block.proofs.Standing.{one-none}
 use Rattle.block.proofs.Stepping.{flags-kept}
+
+-- a unit that has a flag set, with who is next in line
+abbrev lining : LockUnit → Best → LockUnit
+lining x b = showing x (shownAs b true)
 
 -- what stands past the first n cores is blank
 abbrev pub Past : ℕ → LockUnit → Type 0
@@ -106,7 +109,7 @@ module _
     flags-are : flags cores x ≡ one (anyValid x)
     flags-are = eqb-true (flags cores x) (one (anyValid x)) one-flag
 
-    stored-is : stored x ≡ next cores x
+    stored-is : stored (x .next) ≡ next cores x
     stored-is = stored-next cores x shows (omega arith)
 
     -- the unit has one flag where a register is valid
@@ -131,7 +134,7 @@ module _
         stood = registered x (k .0) (standing t)
 
         -- compared with the one that is next
-        joins : ((j : CoreNo) (s : Ticket) → next cores x ≡ Won j s → j .0 ≢ k .0) → next cores stood ≡ compared (stored x) k t
+        joins : ((j : CoreNo) (s : Ticket) → next cores x ≡ Won j s → j .0 ≢ k .0) → next cores stood ≡ compared (stored (x .next)) k t
         joins other =
             joined-next cores x k t (omega arith) long small c recent differ none other ∙ ap (λ (b : Best). compared b k t) (sym stored-is)
 
@@ -175,19 +178,21 @@ module _
                 shown-held taken Nobody (flag-counts x (k .0) (flagged (standing t)) long small refl) none-left)) ∙
                 settled-free stood (Won k t) (same-flags ∙ free) alone
 
-          pub enter-settles : enter x k t ≡ settledUnit stood
+          pub enter-settles : settledBy n k (enter (x .next) k t) x ≡ settledUnit stood
           enter-settles = ap by (held-flags cores x shows) ∙ go (eqb (flags cores x) 0) refl
             where
               by : Bool → Settled
               by b =
-                  cond b
-                  (record { unit = lining stood (compared (stored x) k t); winner = Nobody })
-                  (record { unit = lining taken Nobody; winner = Won k t })
+                  settledBy n k
+                  (cond b
+                  (becomes (standing t) (shownAs (compared (stored (x .next)) k t) true) Nobody false)
+                  (becomes (flagged (standing t)) (shownAs Nobody true) (Won k t) false))
+                  x
 
               go : (b : Bool) → eqb (flags cores x) 0 ≡ b → by (not b) ≡ settledUnit stood
               go true e = takes (eqb-true (flags cores x) 0 e)
               go false e =
-                  settled-held stood (compared (stored x) k t) (λ free. eqb-false (flags cores x) 0 e (sym same-flags ∙ free)) (joins was-out)
+                  settled-held stood (compared (stored (x .next)) k t) (λ free. eqb-false (flags cores x) 0 e (sym same-flags ∙ free)) (joins was-out)
 
         -- Carrying
 
@@ -196,21 +201,21 @@ module _
             (clear : registerIn x (k .0) .flag ≡ false)
             (was : Window c (registerIn x (k .0) .ticket .0))
           where
-            pub carry-settles : record { unit = carry n x k t; winner = Nobody } ≡ settledUnit stood
-            carry-settles = go (isNext x k) refl (isYounger (compare (t .0) (x .next .ticket .0))) refl
+            pub carry-settles : record { unit = changed n k (carry (x .next) k t) x; winner = Nobody } ≡ settledUnit stood
+            carry-settles = go (isNext (x .next) k) refl (isYounger (compare (t .0) (x .next .ticket .0))) refl
               where
                 held : flags cores stood ≢ 0
                 held free = let e = flags-kept x (k .0) (standing t) clear in let o = one-only valid in omega arith
 
                 by : Bool → Bool → Settled
                 by b y =
-                    record {
-                      unit = cond b (cond y (repicked n stood) (lining stood (Won k t))) (lining stood (compared (stored x) k t));
-                      winner = Nobody;
-                    }
+                    let a = becomes (standing t) (x .next) Nobody true in
+                    let d = becomes (standing t) (shownAs (Won k t) true) Nobody false in
+                    let f = becomes (standing t) (shownAs (compared (stored (x .next)) k t) true) Nobody false in
+                    record { unit = changed n k (cond b (cond y a d) f) x; winner = Nobody }
 
                 go :
-                    (b : Bool) → isNext x k ≡ b →
+                    (b : Bool) → isNext (x .next) k ≡ b →
                     (y : Bool) → isYounger (compare (t .0) (x .next .ticket .0)) ≡ y →
                     by b y ≡ settledUnit stood
                 go true e true f =
@@ -219,7 +224,7 @@ module _
                     let q = is-next cores x shows k e in
                     let w : Window c (x .next .ticket .0) = subst (λ (s : Ticket). Window c (s .0)) (next-won cores x k (x .next .ticket) q .1) was in
                     settled-held stood (Won k t) held (joined-own cores x k t (omega arith) long small c recent differ (x .next .ticket) q w f)
-                go false e y f = settled-held stood (compared (stored x) k t) held (joins (not-next cores x shows k e))
+                go false e y f = settled-held stood (compared (stored (x .next)) k t) held (joins (not-next cores x shows k e))
 
     -- Leaving
 
@@ -247,13 +252,13 @@ module _
       past-gone = past-changed x (k .0) blank n within past
 
       -- its flag goes to the next in line
-      passes : registerIn x (k .0) .flag ≡ true → passed n gone (stored x) ≡ settledUnit gone
-      passes mine = go (stored x) (left-aside cores x (k .0) long small out ∙ sym stored-is)
+      passes : registerIn x (k .0) .flag ≡ true → settledBy n k (passed (stored (x .next))) x ≡ settledUnit gone
+      passes mine = go (stored (x .next)) (left-aside cores x (k .0) long small out ∙ sym stored-is)
         where
           out : inLine (registerIn x (k .0)) ≡ false
           out = ap₂ (λ (v f : Bool). v && not f) valid mine
 
-          go : (b : Best) → next cores gone ≡ b → passed n gone b ≡ settledUnit gone
+          go : (b : Best) → next cores gone ≡ b → settledBy n k (passed b) x ≡ settledUnit gone
           go Nobody e =
               ap (λ (y : LockUnit). record { unit = y; winner = Nobody })
               (sym (ap₂ (λ (w : Best) (z : Bool). showing gone (shownAs w (not z))) e (eq-eqb (flags cores gone) 0 (freed mine)))) ∙
@@ -279,7 +284,7 @@ module _
         lined = ap₂ (λ (v f : Bool). v && not f) valid waits
 
         -- if it was not next, whoever was still is
-        stays : isNext x k ≡ false → shown cores gone ≡ gone
+        stays : isNext (x .next) k ≡ false → shown cores gone ≡ gone
         stays other =
             ap (showing gone)
             (ap₂ (λ (b : Best) (m : ℕ). shownAs b (not (eqb m 0))) (go (next cores x) refl) same-left ∙ sym (stores cores x shows))
@@ -288,18 +293,18 @@ module _
             go Nobody e = absurd (clash lined (none e (k .0) small))
             go (Won j s) e = left-other cores x (k .0) long small j s e (not-next cores x shows k other j s e)
 
-        leaves : (b : Bool) → isNext x k ≡ b → record { unit = cond b (repicked n gone) gone; winner = Nobody } ≡ settledUnit gone
+        leaves : (b : Bool) → isNext (x .next) k ≡ b → settledBy n k (becomes blank (x .next) Nobody b) x ≡ settledUnit gone
         leaves true e = settled-held gone (next n gone) held-left (next-here n gone few past-gone)
         leaves false e =
             ap (λ (y : LockUnit). record { unit = y; winner = Nobody }) (sym (stays e) ∙ shown-held gone (next cores gone) held-left refl) ∙
             settled-held gone (next cores gone) held-left refl
 
-      pub leave-settles : leave n x k ≡ settledUnit gone
+      pub leave-settles : settledBy n k (leave (registerIn x (k .0)) (x .next) k) x ≡ settledUnit gone
       leave-settles = go (registerIn x (k .0) .flag) refl
         where
           go :
               (b : Bool) →
               registerIn x (k .0) .flag ≡ b →
-              cond b (passed n gone (stored x)) (record { unit = cond (isNext x k) (repicked n gone) gone; winner = Nobody }) ≡ settledUnit gone
+              settledBy n k (cond b (passed (stored (x .next))) (becomes blank (x .next) Nobody (isNext (x .next) k))) x ≡ settledUnit gone
           go true e = passes e
-          go false e = leaves e (isNext x k) refl
+          go false e = leaves e (isNext (x .next) k) refl

@@ -1,15 +1,21 @@
 -- A step by the calls that work it: its places lie in the arrays, and the plan of what is read there, put back, is the step.
 use Prim.Native.Nat.{_≤_, _<_}
 use mathlib.Core.Bool.{true}
-use mathlib.Core.Path.{_≡_, _∙_}
+use mathlib.Core.List.{List}
+use mathlib.Core.Path.{_≡_, sym, _∙_, subst}
 use Rattle.ticket.specs.declared.kinds.CoreNo.{CoreNo}
+use Rattle.ticket.specs.declared.kinds.Ticket.{Ticket}
 use Rattle.ticket.specs.declared.kinds.UnitNo.{UnitNo}
 use Rattle.parts.specs.Parts.{cores, units}
 use Rattle.parts.specs.declared.kinds.Core.{Core}
+use Rattle.parts.specs.declared.kinds.Counts.{Counts}
 use Rattle.parts.specs.declared.answer.Step.{Step}
 use Rattle.places.specs.Places.{corePlace, unitPlace, otherPlace}
-use Rattle.plan.specs.Plan.{planStep}
+use Rattle.settling.specs.Line.{Within}
+use Rattle.plan.specs.Plan.{partOf, planStep}
+use Rattle.plan.specs.declared.planning.Part.{Part}
 use Rattle.plan.specs.declared.planning.Plan.{Plan}
+use Rattle.plan.proofs.Deciding.{winners-within}
 use Rattle.block.specs.Table.{coreOf, unitOf, Shaped}
 use Rattle.block.specs.Sound.{sound}
 use Rattle.block.specs.Steps.{onSound}
@@ -33,14 +39,24 @@ other-in s c u e = rw e (other-place-within s c)
 pub counted : (t : Table) → sound t ≡ true → t .counts .cores ≤ cores
 counted t ok = cores-few (t .counts) (parts t ok .counts)
 
+-- what a plan grants goes to cores of the table
+pub granted-in :
+    (s : Step) (n : Counts) (m : Ticket) (cs : List Core) (c : Core) (x y : Part) (p : Plan) →
+    p ≡ planStep s n m cs c x y →
+    Within (p .first .winner) × Within (p .second .winner)
+granted-in s n m cs c x y p e =
+    subst (λ (q : Plan). Within (q .first .winner) × Within (q .second .winner)) (sym e) (winners-within s n m cs c x y)
+
 pub in-place :
-    (t : Table) (s : Step) (k : CoreNo) (i j : UnitNo) (p : Plan) (r : Stepped) →
+    (t : Table) (s : Step) (k : CoreNo) (i j : UnitNo) (x y : Part) (p : Plan) (r : Stepped) →
     Shaped t →
     sound t ≡ true →
     k ≡ corePlace s →
     i ≡ unitPlace s (coreOf t (k .0)) →
     j ≡ otherPlace s (coreOf t (k .0)) →
-    p ≡ planStep s (t .counts) (t .counter) (t .cores) (coreOf t (k .0)) (unitOf t (i .0)) (unitOf t (j .0)) →
+    x ≡ partOf (k .0) (unitOf t (i .0)) →
+    y ≡ partOf (k .0) (unitOf t (j .0)) →
+    p ≡ planStep s (t .counts) (t .counter) (t .cores) (coreOf t (k .0)) x y →
     r ≡ putBack t k i j p →
     r ≡ onSound t s
-in-place t s k i j p r shaped ok ek ei ej ep er = er ∙ rw (ep, ej, ei, ek) (by-parts t s shaped ok)
+in-place t s k i j x y p r shaped ok ek ei ej ex ey ep er = er ∙ rw (ep, ey, ex, ej, ei, ek) (by-parts t s shaped ok)

@@ -17,5 +17,6 @@ pub mod Answering
 pub mod Entering
 pub mod ByParts
 pub mod InPlace
+pub mod Rows
 pub mod Held
 pub mod Determined

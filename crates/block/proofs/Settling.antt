@@ -14,15 +14,15 @@ use Rattle.block.specs.Table.{unitOf, withUnit, withRegister, withCore}
 use Rattle.parts.specs.Answer.{packed}
 use Rattle.settling.specs.Line.{won}
 use Rattle.settling.specs.Shown.{shown}
+use Rattle.settling.specs.Settle.{given}
 use Rattle.block.specs.Settle.{winner, give, show}
-use Rattle.block.proofs.Touched.{SettledAt, settleAt, settledOne, freedTwo, given, settledUnit}
+use Rattle.block.proofs.Touched.{SettledAt, settleAt, settledOne, freedTwo, Settled, settledUnit}
 use Rattle.parts.specs.declared.kinds.Register.{Register}
 use Rattle.parts.specs.declared.kinds.LockUnit.{LockUnit}
 use Rattle.parts.specs.declared.kinds.Core.{Core}
 use Rattle.block.specs.declared.table.Table.{Table}
 use Rattle.settling.specs.declared.line.Best.{Best}
 use Rattle.settling.specs.declared.line.Best.the-variants.{Nobody, Won}
-use Rattle.settling.specs.declared.settle.Settled.{Settled}
 use Rattle.parts.specs.declared.answer.Answer.{Answer}
 use Rattle.parts.specs.declared.answer.Answer.the-variants.{Done}
 use Rattle.parts.specs.declared.answer.Grants.{Grants}

@@ -3,9 +3,10 @@
 use Prim.Native.Nat.{ℕ, _<_}
 use mathlib.Core.List.{_++_}
 use mathlib.Core.Path.{_≡_}
+use Rattle.ticket.specs.declared.kinds.CoreNo.{CoreNo}
 use Rattle.ticket.specs.declared.kinds.Ticket.{Ticket}
 use Rattle.ticket.specs.declared.kinds.UnitNo.{UnitNo}
-use Rattle.parts.specs.Parts.{cores, units, blank, flagged, registerIn, registered}
+use Rattle.parts.specs.Parts.{cores, units, blank}
 use Rattle.parts.specs.Answer.{packed}
 use Rattle.parts.specs.declared.kinds.Core.{Core}
 use Rattle.parts.specs.declared.kinds.LockUnit.{LockUnit}
@@ -14,9 +15,10 @@ use Rattle.parts.specs.declared.answer.Answer.the-variants.{Done}
 use Rattle.parts.specs.declared.answer.Grants.the-variants.{None}
 use Rattle.settling.specs.Line.{flags, next, won}
 use Rattle.settling.specs.declared.line.Best.{Best}
-use Rattle.settling.specs.declared.line.Best.the-variants.{Nobody, Won}
+use Rattle.settling.specs.declared.line.Best.the-variants.{Nobody}
 use Rattle.settling.specs.Shown.{shown}
-use Rattle.settling.specs.declared.settle.Settled.{Settled}
+use Rattle.settling.specs.Settle.{given, changed}
+use Rattle.settling.specs.declared.settle.Change.{Change}
 use Rattle.block.specs.Table.{unitOf, withRegister, withCore}
 use Rattle.block.specs.Settle.{winner, give, show}
 use Rattle.block.specs.declared.table.Table.{Table}
@@ -59,10 +61,13 @@ settledTwo t u v a n =
 abbrev pub freedTwo : Table → ℕ → Core → UnitNo → UnitNo → Ticket → Stepped
 freedTwo t k c u v n = settledTwo (withCore (withRegister (withRegister t (u .0) k blank) (v .0) k blank) k c) u v Done n
 
--- one unit by itself: the flag of the core that won is set; it settles, and shows who is next then
-abbrev pub given : LockUnit → Best → LockUnit
-given x Nobody = x
-given x (Won k n) = registered x (k .0) (flagged (registerIn x (k .0)))
+-- a unit by itself that settled, and the core that it granted: by its registers, and by what became of it
+pub record Settled : Type 0 where
+  pub unit : LockUnit
+  pub winner : Best
 
 abbrev pub settledUnit : LockUnit → Settled
 settledUnit x = let w = winner x in record { unit = shown cores (given x w); winner = w }
+
+abbrev pub settledBy : ℕ → CoreNo → Change → LockUnit → Settled
+settledBy n k c x = record { unit = changed n k c x; winner = c .winner }

@@ -4,4 +4,5 @@ pub mod Sound
 pub mod Parts
 pub mod Steps
 pub mod PutBack
+pub mod Apart
 pub mod Over

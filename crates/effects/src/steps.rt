@@ -3,24 +3,18 @@ use crate::kinds::Effect;
 use crate::kinds::Move;
 use parts::Answer;
 use parts::Core;
-use parts::LockUnit;
 use parts::State;
 use parts::Step;
 use parts::core;
 use parts::idle;
 use parts::two_stage;
 use settling::Best;
-use settling::stored;
 use ticket::Comparison;
-use ticket::CoreNo;
 use ticket::Ticket;
 use ticket::UnitNo;
 use ticket::compare;
 use ticket::take;
 ghost use mathlib.Core.Path.{_≡_};
-ghost use Prim.Native.Nat.{_<_};
-ghost use Rattle.parts.specs.Parts.{cores, registerIn};
-ghost use Rattle.settling.specs.Line.{stored};
 ghost use Rattle.effects.specs.Effect.{request, nest, interrupt, comeBack, release, served, heritable, heir, hold, inherit, wait, poll, stepEffect};
 
 // R: takes the counter as ticket, enters the unit, waits.
@@ -188,33 +182,30 @@ fn wait(counter: Ticket, c: Core) -> Effect
     }
 }
 
-// P: core k, which is c, waits at the unit y; at the second stage it holds x.
-fn poll(counter: Ticket, k: CoreNo, c: Core, x: LockUnit, y: LockUnit) -> Effect
-    requires { ⌜ k .0 < cores ⌝ }
-    ensures { λ r. ⌜ r ≡ poll counter c (registerIn y (k .0) .flag) (stored x) ⌝ }
+// P: the core waits for a flag; b is next in line at its first unit.
+fn poll(counter: Ticket, c: Core, flag: bool, b: Best) -> Effect
+    ensures { λ r. ⌜ r ≡ poll counter c flag b ⌝ }
 {
     let s = c.state;
     let own = c.own;
-    let i = k.0 as usize;
-    let r = y.registers[i];
-    if r.flag {
+    if flag {
         return hold(counter, c);
     }
     if two_stage(s) {
-        return inherit(counter, c, heir(own, stored(x)));
+        return inherit(counter, c, heir(own, b));
     }
     wait(counter, c)
 }
 
-// Seam: the effect of a step of core k, which is c: x and y are the units at its places.
-pub fn step_effect(s: Step, counter: Ticket, k: CoreNo, c: Core, x: LockUnit, y: LockUnit) -> Effect
-    requires { ⌜ k .0 < cores ⌝ }
-    ensures { λ r. ⌜ r ≡ stepEffect s counter c (registerIn y (k .0) .flag) (stored x) ⌝ }
+// Seam: the effect of a step of the core c: whether the flag that it waits for is set, and who is next in line at its
+// first unit, is what a poll reads.
+pub fn step_effect(s: Step, counter: Ticket, c: Core, flag: bool, b: Best) -> Effect
+    ensures { λ r. ⌜ r ≡ stepEffect s counter c flag b ⌝ }
 {
     match s {
         Step::R(_, u) => request(u, counter),
         Step::N(_, u) => nest(u, counter, c),
-        Step::P(_) => poll(counter, k, c, x, y),
+        Step::P(_) => poll(counter, c, flag, b),
         Step::I(_) => interrupt(counter, c),
         Step::C(_) => come_back(counter, c),
         Step::L(_) => release(counter, c),

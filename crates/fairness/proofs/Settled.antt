@@ -15,6 +15,7 @@ use Rattle.parts.specs.Parts.{cores, units, coreNo, blank, flagged, registerIn}
 use Rattle.block.specs.Table.{unitOf, registerOf, withRegister, Shaped}
 use Rattle.settling.specs.Line.{flags, next}
 use Rattle.settling.specs.Shown.{shown}
+use Rattle.settling.specs.Settle.{given}
 use Rattle.block.specs.Settle.{winner, give, show, settleNext, settle}
 use Rattle.parts.specs.declared.kinds.Register.{Register}
 use Rattle.parts.specs.declared.kinds.LockUnit.{LockUnit}
@@ -24,7 +25,7 @@ use Rattle.settling.specs.declared.line.Best.the-variants.{Nobody, Won}
 use Rattle.block.proofs.Access.{unit-same, shaped-register}
 use Rattle.parts.proofs.Along.{same-or-not, to-last, along}
 use Rattle.settling.proofs.Picking.{next-won}
-use Rattle.block.proofs.Touched.{settleAt, given, settledUnit}
+use Rattle.block.proofs.Touched.{settleAt, settledUnit}
 use Rattle.block.proofs.Touching.{settleAt-unit}
 use Rattle.laws.specs.Granting.{Due}
 use Rattle.laws.proofs.Settling.{Kept, settleAt-shaped, settleAt-keeps}

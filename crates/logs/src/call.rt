@@ -1,5 +1,9 @@
 // One call: lines are read, worked and held to what they show until one stops the run, which then stands at its start.
 use block::Table;
+use block::gathered;
+use block::nexts_of;
+use block::rows_of;
+use block::unit_with;
 use building::build;
 use headers::HeaderLine;
 use lines::Ending;
@@ -21,6 +25,9 @@ use places::other_place;
 use places::unit_place;
 use plan::Plan;
 use plan::plan_step;
+use settling::passed_to;
+use settling::repicked;
+use settling::with_flag;
 use stops::Run;
 use stops::STEPS_MOST;
 use stops::Stop;
@@ -250,35 +257,65 @@ fn at_unfit(run: Run, log: &[u8]) -> Checked
     }
 }
 
-// The lines from where the run stands, on a sound table. A step's plan is put back in place.
+// The lines from where the run stands, on a sound table. Its units are worked apart: what becomes of a unit is put back where it
+// stands, unit j before i, since where both are the same the second stays.
 fn log_lines(run: Run, log: &[u8]) -> Checked
     requires { ⌜ (run .headed ≡ true) × (sound (run .table) ≡ true) × Held (run .table) ⌝ }
     ensures { λ r. ⌜ r ≡ checked run (checkCall run (now (log .entry))) ⌝ }
 {
     let mut at = run;
     let mut table = run.table;
+    let mut rows = rows_of(table);
+    let mut nexts = nexts_of(table);
     let mut space = [0u8; SHOWN_MOST];
     loop {
         let place = at.place;
         match line_due(log, place, at.steps) {
-            Due::Stop(why) => return stopped(at, table, LogStop::Plain(why)),
-            Due::Work(s, b) => {
-                let k = core_place(s).0 as usize;
+            Due::Stop(why) => return stopped(at, gathered(table, rows, nexts), LogStop::Plain(why)),
+            Due::Work(s, behind) => {
+                let o = core_place(s);
+                let k = o.0 as usize;
                 let c = table.cores[k];
                 let i = unit_place(s, c).0 as usize;
                 let j = other_place(s, c).0 as usize;
-                let x = table.units[i];
-                let y = table.units[j];
+                let x = plan::Part::of(rows[i][k], nexts[i]);
+                let y = plan::Part::of(rows[j][k], nexts[j]);
                 let p = plan_step(s, table.counts, table.counter, table.cores, c, x, y);
                 let counter = p.counter;
-                match line_meets(log, place, b, given_by(p), &mut space) {
-                    Met::Stop(why) => return stopped(at, table, why),
+                match line_meets(log, place, behind, given_by(p), &mut space) {
+                    Met::Stop(why) => return stopped(at, gathered(table, rows, nexts), why),
                     Met::Agrees(next) => {
-                        let first = p.first;
-                        let second = p.second;
+                        let a = p.first;
+                        let b = p.second;
                         let core = p.core;
-                        table.units[j] = second;
-                        table.units[i] = first;
+                        if p.moves {
+                            let q = b.register;
+                            let z = b.next;
+                            rows[j][k] = q;
+                            nexts[j] = z;
+                            if b.repick {
+                                let m = b.winner;
+                                let w = passed_to(m, o).0 as usize;
+                                rows[j][w] = with_flag(rows[j][w], m);
+                                nexts[j] = repicked(
+                                    table.counts.cores,
+                                    unit_with(rows[j], nexts[j]),
+                                );
+                            }
+                            let r = a.register;
+                            let v = a.next;
+                            rows[i][k] = r;
+                            nexts[i] = v;
+                            if a.repick {
+                                let m = a.winner;
+                                let w = passed_to(m, o).0 as usize;
+                                rows[i][w] = with_flag(rows[i][w], m);
+                                nexts[i] = repicked(
+                                    table.counts.cores,
+                                    unit_with(rows[i], nexts[i]),
+                                );
+                            }
+                        }
                         table.cores[k] = core;
                         table.counter = counter;
                         at.steps += 1;

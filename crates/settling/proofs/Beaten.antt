@@ -2,6 +2,7 @@
 -- in line: the two ways of saying who is next agree, on every unit.
 use Prim.Native.Nat.{ℕ, zero, suc, _≤_, _<_}
 use mathlib.Core.Bool.{Bool, true, false, cond, _&&_, _||_, not}
+use mathlib.Core.List.{List}
 use mathlib.Core.Logic.{_⊎_, inl, inr, _≢_}
 use mathlib.Core.Path.{_≡_, refl, sym, _∙_, ap, ap₂}
 use native.Mathlib.Omega.{arith}
@@ -23,18 +24,17 @@ use Rattle.parts.proofs.Folds.{every-at, at-every, some-at, at-some, none-some,
 use Rattle.settling.specs.Line.{inLine, isOlder, older, oldest, chosen, next}
 use Rattle.settling.specs.Pairs.{column, marked, unmarked, lost, loses, judged, allJudged, stays, unbeaten}
 use Rattle.settling.specs.Claims.{ByPairs}
-use Rattle.settling.specs.declared.pairs.Losers.{Losers}
 use Rattle.settling.specs.declared.line.Best.the-variants.{Nobody, Won}
 use Rattle.settling.proofs.Pairing.{over-pairs}
 
 -- Marks
 
-abbrev Whole : Losers → Type 0
-Whole l = length (l .lost) ≡ cores
+abbrev Whole : List Bool → Type 0
+Whole l = length l ≡ cores
 
-module _ (l : Losers) (whole : Whole l) where
+module _ (l : List Bool) (whole : Whole l) where
   marked-whole : (i : ℕ) → Whole (marked l i)
-  marked-whole i = length-set (l .lost) i true ∙ whole
+  marked-whole i = length-set l i true ∙ whole
 
   marked-lost : (i k : ℕ) → i < cores → lost (marked l i) k ≡ (lost l k || eqb k i)
   marked-lost i k h = go (same-or-not k i)
@@ -49,19 +49,19 @@ module _ (l : Losers) (whole : Whole l) where
 
       go : (k ≡ i) ⊎ (k ≢ i) → lost (marked l i) k ≡ (lost l k || eqb k i)
       go (inl e) =
-          ap (λ (m : ℕ). getD (set (l .lost) i true) m false) e ∙
-          getD-set-same (l .lost) i true false (rw whole h) ∙
+          ap (λ (m : ℕ). getD (set l i true) m false) e ∙
+          getD-set-same l i true false (rw whole h) ∙
           or-true (lost l k) ∙
           ap (λ (b : Bool). lost l k || b) (sym (eq-eqb k i e))
       go (inr d) =
-          getD-set-other (l .lost) i k true false d ∙ or-false (lost l k) ∙ ap (λ (b : Bool). lost l k || b) (sym (ne-eqb k i d))
+          getD-set-other l i k true false d ∙ or-false (lost l k) ∙ ap (λ (b : Bool). lost l k || b) (sym (ne-eqb k i d))
 
 -- whether core k loses in the pair i, j
-abbrev hit : LockUnit → ℕ → ℕ → ℕ → Bool
+abbrev pub hit : LockUnit → ℕ → ℕ → ℕ → Bool
 hit x k i j =
     (inLine (registerIn x i) && inLine (registerIn x j)) && ((eqb k i && not (older x i j)) || (eqb k j && not (older x j i)))
 
-module _ (x : LockUnit) (k i j : ℕ) (hi : i < cores) (hj : j < cores) (l : Losers) (whole : Whole l) where
+module _ (x : LockUnit) (k i j : ℕ) (hi : i < cores) (hj : j < cores) (l : List Bool) (whole : Whole l) where
   abbrev says : Comparison
   says = compare (registerIn x i .ticket .0) (registerIn x j .ticket .0)
 
@@ -132,7 +132,7 @@ module _ (x : LockUnit) (k i j : ℕ) (hi : i < cores) (hj : j < cores) (l : Los
 -- Folds that mark: v is a mark, p k what turn k adds to it
 
 module _ {A : Type 0} (v : A → Bool) (W : A → Type 0) where
-  marks :
+  pub marks :
       (f : ℕ → A → A) (p : ℕ → Bool) (n : ℕ) →
       ((k : ℕ) → k < n → (b : A) → W b → W (f k b) × (v (f k b) ≡ (v b || p k))) →
       (a : A) → W a →
@@ -160,18 +160,18 @@ module _ {A : Type 0} (v : A → Bool) (W : A → Type 0) where
 
 module _ (n : ℕ) (x : LockUnit) (few : n ≤ cores) (k : ℕ) where
   -- whether core k loses in a pair with j the later one
-  abbrev beaten : ℕ → Bool
+  abbrev pub beaten : ℕ → Bool
   beaten j = some (λ (i : ℕ). hit x k i j) j
 
-  column-marks : (j : ℕ) → j < n → (l : Losers) → Whole l → Whole (column (judged x) j l) × (lost (column (judged x) j l) k ≡ (lost l k || beaten j))
+  pub column-marks : (j : ℕ) → j < n → (l : List Bool) → Whole l → Whole (column (judged x) j l) × (lost (column (judged x) j l) k ≡ (lost l k || beaten j))
   column-marks j h l w =
-      marks (λ (m : Losers). lost m k) Whole (λ (i : ℕ). judged x i j) (λ (i : ℕ). hit x k i j) j
+      marks (λ (m : List Bool). lost m k) Whole (λ (i : ℕ). judged x i j) (λ (i : ℕ). hit x k i j) j
       (λ i g m u. (judged-whole x k i j (omega arith) (omega arith) m u, judged-lost x k i j (omega arith) (omega arith) m u))
       l w
 
-  all-lost : k < n → lost (allJudged n x) k ≡ some beaten n
+  pub all-lost : k < cores → lost (allJudged n x) k ≡ some beaten n
   all-lost small =
-      marks (λ (l : Losers). lost l k) Whole (column (judged x)) beaten n column-marks unmarked (length-replicate cores false) .1 ∙
+      marks (λ (l : List Bool). lost l k) Whole (column (judged x)) beaten n column-marks unmarked (length-replicate cores false) .1 ∙
       ap (λ (b : Bool). b || some beaten n) clear
     where
       clear : lost unmarked k ≡ false
@@ -255,7 +255,7 @@ module _ (n : ℕ) (x : LockUnit) (few : n ≤ cores) (k : ℕ) where
         go false l false m = absurd (let a = ltb-false k j l in let b = ltb-false j k m in other (omega arith))
 
     agree : not (lost (allJudged n x) k) ≡ every over n
-    agree = ap not (all-lost small) ∙ go (some (λ (j : ℕ). not (over j)) n) refl
+    agree = ap not (all-lost (omega arith)) ∙ go (some (λ (j : ℕ). not (over j)) n) refl
       where
         undo : (b : Bool) → not b ≡ true → b ≡ false
         undo = not-true-false
@@ -286,12 +286,16 @@ module _ (n : ℕ) (x : LockUnit) (few : n ≤ cores) (k : ℕ) where
       go true e = agree small e
       go false e = refl
 
+-- the marks are as many as before
+pub all-whole : (n : ℕ) (x : LockUnit) → n ≤ cores → Whole (allJudged n x)
+all-whole n x few = along (λ (m : ℕ). Whole) (column (judged x)) unmarked (length-replicate cores false) n (λ j h l w. column-marks n x few 0 j h l w .0)
+
 -- a core that is not in line has no pairs
-pub column-out : (x : LockUnit) (j : ℕ) (l : Losers) → inLine (registerIn x j) ≡ false → column (judged x) j l ≡ l
-column-out x j l out = along (λ (m : ℕ) (a : Losers). a ≡ l) (λ (i : ℕ). judged x i j) l refl j (λ i h a so. still i a (inLine (registerIn x i)) ∙ so)
+pub column-out : (x : LockUnit) (j : ℕ) (l : List Bool) → inLine (registerIn x j) ≡ false → column (judged x) j l ≡ l
+column-out x j l out = along (λ (m : ℕ) (a : List Bool). a ≡ l) (λ (i : ℕ). judged x i j) l refl j (λ i h a so. still i a (inLine (registerIn x i)) ∙ so)
   where
     still :
-        (i : ℕ) (a : Losers) (b : Bool) →
+        (i : ℕ) (a : List Bool) (b : Bool) →
         cond (b && inLine (registerIn x j)) (loses (compare (registerIn x i .ticket .0) (registerIn x j .ticket .0)) i j a) a ≡ a
     still i a true = ap (λ (p : Bool). cond p (loses (compare (registerIn x i .ticket .0) (registerIn x j .ticket .0)) i j a) a) out
     still i a false = refl

@@ -9,6 +9,11 @@ use Rattle.settling.proofs.next.shows_next.Reads as shows-next
 use Rattle.settling.proofs.settle.enter.Reads as enter
 use Rattle.settling.proofs.settle.leave.Reads as leave
 use Rattle.settling.proofs.settle.carry.Reads as carry
+use Rattle.settling.proofs.settle.stay.Reads as stay
+use Rattle.settling.proofs.settle.passed_to.Reads as passed-to
+use Rattle.settling.proofs.settle.with_flag.Reads as with-flag
+use Rattle.settling.proofs.settle.repicked.Reads as repicked
+use Rattle.settling.proofs.settle.changed.Reads as changed
 
 pub next-of-determined : Determines next-of.Post
 next-of-determined κs a x y s t p q = p ∙ sym q
@@ -33,3 +38,18 @@ leave-determined κs a x y s t p q = p ∙ sym q
 
 pub carry-determined : Determines carry.Post
 carry-determined κs a x y s t p q = p ∙ sym q
+
+pub stay-determined : Determines stay.Post
+stay-determined κs a x y s t p q = p ∙ sym q
+
+pub passed-to-determined : Determines passed-to.Post
+passed-to-determined κs a x y s t p q = p ∙ sym q
+
+pub with-flag-determined : Determines with-flag.Post
+with-flag-determined κs a x y s t p q = p ∙ sym q
+
+pub repicked-determined : Determines repicked.Post
+repicked-determined κs a x y s t p q = p ∙ sym q
+
+pub changed-determined : Determines changed.Post
+changed-determined κs a x y s t p q = p ∙ sym q

@@ -8,7 +8,7 @@ use mathlib.Core.Path.{_≡_, refl, sym, _∙_, ap, ap₂, subst}
 use native.Mathlib.Omega.{arith}
 use lib.Dec.{eqb, ltb}
 use lib.ListN.{length}
-use lib.Seq.{getD-set-same, getD-set-other}
+use lib.Seq.{getD-set-same, getD-set-other, set-getD}
 use borrow.Author.Tests.{eqb-true, eq-eqb, lt-ltb, ltb-true}
 use Rattle.ticket.specs.Kinds.{ticket}
 use Rattle.ticket.specs.Order.{behind, compare, Window}
@@ -31,7 +31,7 @@ use Rattle.parts.proofs.Folds.{every-cong, count-cong}
 use Rattle.settling.specs.Line.{flags, inLine, isOlder, older, oldest, chosen, next, stored, Within}
 use Rattle.settling.specs.Pairs.{isYounger}
 use Rattle.settling.specs.Shown.{shownAs, nextOf, shown, agree, same, showsNext}
-use Rattle.settling.specs.Settle.{compared, isNext}
+use Rattle.settling.specs.Settle.{compared, isNext, passedTo, withFlag, given}
 use Rattle.settling.specs.declared.line.Best.{Best}
 use Rattle.settling.specs.declared.line.Best.the-variants.{Nobody, Won}
 use Rattle.settling.proofs.Picking.{next-won, next-oldest, next-over, next-within, next-alone, ordered}
@@ -136,21 +136,20 @@ module _ (n : ℕ) (x : LockUnit) where
     pub held-flags : x .next .held ≡ not (eqb (flags n x) 0)
     held-flags = ap (λ (v : Next). v .held) stores ∙ held-as (next n x) (not (eqb (flags n x) 0))
 
-    pub stored-next : n ≤ cores → stored x ≡ next n x
+    pub stored-next : n ≤ cores → stored (x .next) ≡ next n x
     stored-next few =
-        ap (λ (v : Next). cond (v .valid && ltb (v .core .0) cores) (Won (v .core) (v .ticket)) Nobody) stores ∙
+        ap stored stores ∙
         go (next n x) (next-within n x few)
       where
         go :
             (b : Best) →
             Within b →
-            let v = shownAs b (not (eqb (flags n x) 0)) in
-            cond (v .valid && ltb (v .core .0) cores) (Won (v .core) (v .ticket)) Nobody ≡ b
+            stored (shownAs b (not (eqb (flags n x) 0))) ≡ b
         go Nobody w = refl
         go (Won k t) w = ap (λ (b : Bool). cond b (Won k t) Nobody) (lt-ltb (k .0) cores w)
 
     -- whether core k is the one that it shows
-    pub is-next : (k : CoreNo) → isNext x k ≡ true → (next n x ≡ Won k (x .next .ticket))
+    pub is-next : (k : CoreNo) → isNext (x .next) k ≡ true → (next n x ≡ Won k (x .next .ticket))
     is-next k e = go (next n x) refl
       where
         go : (b : Best) → next n x ≡ b → next n x ≡ Won k (x .next .ticket)
@@ -164,7 +163,7 @@ module _ (n : ℕ) (x : LockUnit) where
             (sym (ap (λ (w : Next). w .core) v) ∙ ap coreNo (eqb-true (x .next .core .0) (k .0) (and-right (x .next .valid) _ e)))
             (sym (ap (λ (w : Next). w .ticket) v))
 
-    pub not-next : (k : CoreNo) → isNext x k ≡ false → (j : CoreNo) (t : Ticket) → next n x ≡ Won j t → j .0 ≢ k .0
+    pub not-next : (k : CoreNo) → isNext (x .next) k ≡ false → (j : CoreNo) (t : Ticket) → next n x ≡ Won j t → j .0 ≢ k .0
     not-next k e j t q d =
         let v : x .next ≡ shownAs (Won j t) (not (eqb (flags n x) 0)) = stores ∙ ap (λ (b : Best). shownAs b (not (eqb (flags n x) 0))) q in
         clash
@@ -172,13 +171,25 @@ module _ (n : ℕ) (x : LockUnit) where
         e
 
 -- whom a unit stores is one of the table's
-pub stored-within : (x : LockUnit) → Within (stored x)
-stored-within x = go (x .next .valid) (ltb (x .next .core .0) cores) refl
+pub stored-within : (v : Next) → Within (stored v)
+stored-within v = go (v .valid) (ltb (v .core .0) cores) refl
   where
-    go : (v b : Bool) → ltb (x .next .core .0) cores ≡ b → Within (cond (v && b) (Won (x .next .core) (x .next .ticket)) Nobody)
-    go true true e = ltb-true (x .next .core .0) cores e
+    go : (a b : Bool) → ltb (v .core .0) cores ≡ b → Within (cond (a && b) (Won (v .core) (v .ticket)) Nobody)
+    go true true e = ltb-true (v .core .0) cores e
     go true false e = tt
     go false b e = tt
+
+-- Passing the flag on: to one of the table's, and to nobody where nobody was next
+
+pub passed-within : (b : Best) (k : CoreNo) → Within b → k .0 < cores → passedTo b k .0 < cores
+passed-within Nobody k w h = h
+passed-within (Won j t) k w h = w
+
+pub passed-given :
+    (x : LockUnit) (b : Best) (k : CoreNo) →
+    registered x (passedTo b k .0) (withFlag (registerIn x (passedTo b k .0)) b) ≡ given x b
+passed-given x Nobody k = ap (λ (l : List Register). record { registers = l; next = x .next }) (set-getD (x .registers) (k .0) blank)
+passed-given x (Won j t) k = refl
 
 -- A unit whose register of core k changed
 

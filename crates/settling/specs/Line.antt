@@ -12,6 +12,7 @@ use Rattle.ticket.specs.declared.order.Comparison.the-variants.{Older, Younger,
 use Rattle.parts.specs.Fold.{upTo, every, count}
 use Rattle.parts.specs.Parts.{cores, coreNo, unitNo, registerIn}
 use Rattle.parts.specs.declared.kinds.Register.{Register}
+use Rattle.parts.specs.declared.kinds.Next.{Next}
 use Rattle.parts.specs.declared.kinds.LockUnit.{LockUnit}
 use Rattle.settling.specs.declared.line.Best.{Best}
 use Rattle.settling.specs.declared.line.Best.the-variants.{Nobody, Won}
@@ -44,8 +45,8 @@ abbrev pub next : ℕ → LockUnit → Best
 next n x = upTo (chosen x (oldest n x)) n Nobody
 
 -- who a unit shows as its next in line; a core that no table has is nobody
-abbrev pub stored : LockUnit → Best
-stored x = cond (x .next .valid && ltb (x .next .core .0) cores) (Won (x .next .core) (x .next .ticket)) Nobody
+abbrev pub stored : Next → Best
+stored v = cond (v .valid && ltb (v .core .0) cores) (Won (v .core) (v .ticket)) Nobody
 
 -- a core that may win is one of the table's
 abbrev pub Within : Best → Type 0

@@ -1,20 +1,20 @@
 // Who stands in line at a unit, and who is next.
-use crate::pairs::Line;
-use crate::pairs::Losers;
 use crate::pairs::column;
-use crate::pairs::joined;
 use parts::CORES;
 use parts::LockUnit;
+use parts::Next;
 use parts::Register;
 use ticket::CoreNo;
 use ticket::Ticket;
 ghost use mathlib.Core.Bool.{cond};
 ghost use mathlib.Core.Path.{_≡_};
 ghost use Prim.Native.Nat.{_≤_};
+ghost use lib.ListN.{length};
+ghost use Rattle.parts.specs.Fold.{upTo};
 ghost use Rattle.parts.specs.Parts.{cores};
 ghost use Rattle.settling.specs.Line.{inLine, next, stored};
-ghost use Rattle.settling.specs.Pairs.{lined, unbeaten};
-ghost use Rattle.settling.specs.declared.line.Best.the-variants.{Won};
+ghost use Rattle.settling.specs.Pairs.{kept};
+ghost use Rattle.settling.specs.declared.line.Best.the-variants.{Nobody, Won};
 
 // The core that is next in line at a unit, and its ticket.
 pub enum Best {
@@ -22,11 +22,10 @@ pub enum Best {
     Won(CoreNo, Ticket),
 }
 
-// Seam: who a unit shows as its next in line. A core that no table has is nobody.
-pub fn stored(x: LockUnit) -> Best
-    ensures { λ r. ⌜ r ≡ stored x ⌝ }
+// Seam: who a unit that shows v has next in line. A core that no table has is nobody.
+pub fn stored(v: Next) -> Best
+    ensures { λ r. ⌜ r ≡ stored v ⌝ }
 {
-    let v = x.next;
     let t = v.ticket;
     let k = v.core;
     let i = k.0 as usize;
@@ -51,21 +50,18 @@ fn unless(lost: bool, k: CoreNo, t: Ticket, best: Best) -> Best
     if lost { best } else { Best::Won(k, t) }
 }
 
-// The core in line that did not lose.
-fn unbeaten(n: u16, x: LockUnit, w: Line, l: Losers) -> Best
-    requires { ⌜ (n ≤ cores) × (w ≡ lined n x) ⌝ }
-    ensures { λ r. ⌜ r ≡ unbeaten n x l ⌝ }
+// Of the first c in line, `who` at their places, the one that did not lose.
+fn unbeaten(who: &[u16], line: &[u16], c: usize, lost: &[bool]) -> Best
+    requires { ⌜ (c ≤ length (now who)) × (c ≤ length (now line)) × (c ≤ length (now lost)) ⌝ }
+    ensures { λ r. ⌜ r ≡ upTo (kept (now (who .entry)) (now (line .entry)) (now (lost .entry))) c Nobody ⌝ }
 {
-    let c = w.count;
     let mut best = Best::Nobody;
     let mut a = 0;
     while a < c {
-        let i = w.who[a];
-        let r = x.registers[i];
-        let t = r.ticket;
-        let lost = l.lost[i];
-        let k = i as u16;
-        best = unless(lost, CoreNo(k), t, best);
+        let k = who[a];
+        let t = line[a];
+        let b = lost[a];
+        best = unless(b, CoreNo(k), Ticket(t), best);
         a += 1;
     }
     best
@@ -78,22 +74,22 @@ pub fn next_of(n: u16, x: LockUnit) -> Best
     ensures { λ r. ⌜ r ≡ next n x ⌝ }
 {
     let m = n as usize;
-    let mut w = Line {
-        count: 0,
-        who: [0; CORES],
-    };
-    let mut l = Losers {
-        lost: [false; CORES],
-    };
+    let mut who = [0; CORES];
+    let mut line = [0; CORES];
+    let mut lost = [false; CORES];
+    let mut c = 0;
     let mut j = 0;
     while j < m {
         let r = x.registers[j];
         if in_line(r) {
             let t = r.ticket;
-            l = column(x, w, j, t, l);
-            w = joined(w, j);
+            let last = column(&line, c, t, &mut lost);
+            who[c] = j as u16;
+            line[c] = t.0;
+            lost[c] = last;
+            c += 1;
         }
         j += 1;
     }
-    unbeaten(n, x, w, l)
+    unbeaten(&who, &line, c, &lost)
 }

@@ -1,4 +1,6 @@
-// Who gets a unit's flag, and who is next in line, when a core enters or leaves it or shows another ticket there.
+// What becomes of a unit when a core enters or leaves it or shows another ticket there: who gets its flag, and who is next
+// in line. The core's register and what the unit shows tell; the other registers are looked at only where the next in line
+// went away.
 use crate::line::Best;
 use crate::line::next_of;
 use crate::line::stored;
@@ -6,6 +8,8 @@ use crate::next::shown_as;
 use crate::pairs::is_older;
 use crate::pairs::is_younger;
 use parts::LockUnit;
+use parts::Next;
+use parts::Register;
 use parts::blank;
 use parts::flagged;
 use parts::registered;
@@ -14,32 +18,37 @@ use parts::standing;
 use ticket::CoreNo;
 use ticket::Ticket;
 use ticket::compare;
-ghost use mathlib.Core.Bool.{cond};
 ghost use mathlib.Core.Path.{_≡_};
 ghost use Prim.Native.Nat.{_≤_, _<_};
 ghost use Rattle.parts.specs.Parts.{cores};
 ghost use Rattle.settling.specs.Line.{Within};
-ghost use Rattle.settling.specs.Settle.{lining, repicked, compared, isNext, enter, passed, leave, carry};
+ghost use Rattle.settling.specs.Settle.{becomes, stay, compared, isNext, enter, passed, leave, carry, passedTo, withFlag, repicked, resettled, changed};
 
-// A unit after it settled, and the core that it granted.
-pub struct Settled {
-    pub unit: LockUnit,
+// What becomes of a unit in which a core moves: the core's register, what the unit shows, and who gets its flag. With
+// `repick` the next in line went away, and the pairs are gone through for another.
+pub struct Change {
+    pub register: Register,
+    pub next: Next,
     pub winner: Best,
+    pub repick: bool,
 }
 
-// A unit that has a flag set, with who is next in line.
-fn lining(x: LockUnit, b: Best) -> LockUnit
-    ensures { λ y. ⌜ y ≡ lining x b ⌝ }
+fn becomes(register: Register, next: Next, winner: Best, repick: bool) -> Change
+    ensures { λ c. ⌜ c ≡ becomes register next winner repick ⌝ }
 {
-    showing(x, shown_as(b, true))
+    Change {
+        register,
+        next,
+        winner,
+        repick,
+    }
 }
 
-// The same, with the next in line found by the pairs.
-fn repicked(n: u16, x: LockUnit) -> LockUnit
-    requires { ⌜ n ≤ cores ⌝ }
-    ensures { λ y. ⌜ y ≡ repicked n x ⌝ }
+// Seam: nothing changes.
+pub fn stay(r: Register, v: Next) -> Change
+    ensures { λ c. ⌜ c ≡ stay r v ⌝ }
 {
-    lining(x, next_of(n, x))
+    becomes(r, v, Best::Nobody, false)
 }
 
 // Core k, in line with the ticket t, and the one that is next: the older is next.
@@ -59,97 +68,125 @@ fn compared(b: Best, k: CoreNo, t: Ticket) -> Best
 }
 
 // Whether core k is the one that a unit shows.
-fn is_next(x: LockUnit, k: CoreNo) -> bool
-    ensures { λ r. ⌜ r ≡ isNext x k ⌝ }
+fn is_next(v: Next, k: CoreNo) -> bool
+    ensures { λ r. ⌜ r ≡ isNext v k ⌝ }
 {
-    let v = x.next;
     let j = v.core;
     v.valid & (j.0 == k.0)
 }
 
-// Seam: core k enters the unit with a ticket. One that has a flag set lets it stand, and it is compared with the next in
+// Seam: core k enters a unit with a ticket. One that has a flag set lets it stand, and it is compared with the next in
 // line; a free one is its own.
-pub fn enter(x: LockUnit, k: CoreNo, t: Ticket) -> Settled
-    requires { ⌜ k .0 < cores ⌝ }
-    ensures { λ r. ⌜ r ≡ enter x k t ⌝ }
+pub fn enter(v: Next, k: CoreNo, t: Ticket) -> Change
+    ensures { λ c. ⌜ c ≡ enter v k t ⌝ }
 {
     let r = standing(t);
-    let v = x.next;
     if v.held {
-        let b = compared(stored(x), k, t);
-        Settled {
-            unit: lining(registered(x, k, r), b),
-            winner: Best::Nobody,
-        }
+        let b = compared(stored(v), k, t);
+        becomes(r, shown_as(b, true), Best::Nobody, false)
     } else {
-        Settled {
-            unit: lining(registered(x, k, flagged(r)), Best::Nobody),
-            winner: Best::Won(k, t),
-        }
+        becomes(
+            flagged(r),
+            shown_as(Best::Nobody, true),
+            Best::Won(k, t),
+            false,
+        )
     }
 }
 
-// A unit without a flag: the next in line gets it, and another is next.
-fn passed(n: u16, x: LockUnit, b: Best) -> Settled
-    requires { ⌜ (n ≤ cores) × Within b ⌝ }
-    ensures { λ r. ⌜ r ≡ passed n x b ⌝ }
+// A core gives up its flag: the next in line gets it, and another is next.
+fn passed(b: Best) -> Change
+    ensures { λ c. ⌜ c ≡ passed b ⌝ }
 {
     match b {
-        Best::Nobody => Settled {
-            unit: showing(x, shown_as(b, false)),
-            winner: b,
-        },
-        Best::Won(k, _) => {
-            let i = k.0 as usize;
-            let r = x.registers[i];
-            Settled {
-                unit: repicked(n, registered(x, k, flagged(r))),
-                winner: b,
-            }
-        }
+        Best::Nobody => becomes(blank(), shown_as(b, false), b, false),
+        Best::Won(_, _) => becomes(blank(), shown_as(Best::Nobody, true), b, true),
     }
-}
-
-// The unit that core k left without having its flag: if it was next, another is.
-fn left(n: u16, x: LockUnit, going: bool) -> LockUnit
-    requires { ⌜ n ≤ cores ⌝ }
-    ensures { λ y. ⌜ y ≡ cond going (repicked n x) x ⌝ }
-{
-    if going { repicked(n, x) } else { x }
 }
 
 // Seam: core k gives up its register. If its flag was set, the next in line gets it.
-pub fn leave(n: u16, x: LockUnit, k: CoreNo) -> Settled
-    requires { ⌜ (n ≤ cores) × (k .0 < cores) ⌝ }
-    ensures { λ r. ⌜ r ≡ leave n x k ⌝ }
+pub fn leave(r: Register, v: Next, k: CoreNo) -> Change
+    ensures { λ c. ⌜ c ≡ leave r v k ⌝ }
 {
-    let i = k.0 as usize;
-    let r = x.registers[i];
-    let y = registered(x, k, blank());
     if r.flag {
-        passed(n, y, stored(x))
+        passed(stored(v))
     } else {
-        Settled {
-            unit: left(n, y, is_next(x, k)),
-            winner: Best::Nobody,
-        }
+        becomes(blank(), v, Best::Nobody, is_next(v, k))
     }
 }
 
 // Seam: core k, which stands in line, shows the ticket t from now on. If it was next and is younger now, another may be.
-pub fn carry(n: u16, x: LockUnit, k: CoreNo, t: Ticket) -> LockUnit
-    requires { ⌜ (n ≤ cores) × (k .0 < cores) ⌝ }
-    ensures { λ y. ⌜ y ≡ carry n x k t ⌝ }
+pub fn carry(v: Next, k: CoreNo, t: Ticket) -> Change
+    ensures { λ c. ⌜ c ≡ carry v k t ⌝ }
 {
-    let y = registered(x, k, standing(t));
-    let v = x.next;
+    let r = standing(t);
     let s = v.ticket;
-    if !is_next(x, k) {
-        return lining(y, compared(stored(x), k, t));
+    if !is_next(v, k) {
+        return becomes(
+            r,
+            shown_as(compared(stored(v), k, t), true),
+            Best::Nobody,
+            false,
+        );
     }
     if is_younger(compare(t, s)) {
-        repicked(n, y)
+        becomes(r, v, Best::Nobody, true)
     } else {
-        lining(y, Best::Won(k, t))
+        becomes(r, shown_as(Best::Won(k, t), true), Best::Nobody, false)
     }
+}
+
+// Seam: the core whose flag is set, core k itself where nobody's is.
+pub fn passed_to(b: Best, k: CoreNo) -> CoreNo
+    ensures { λ r. ⌜ r ≡ passedTo b k ⌝ }
+{
+    match b {
+        Best::Nobody => k,
+        Best::Won(j, _) => j,
+    }
+}
+
+// Seam: that core's register: its flag is set, if anybody's is.
+pub fn with_flag(r: Register, b: Best) -> Register
+    ensures { λ q. ⌜ q ≡ withFlag r b ⌝ }
+{
+    match b {
+        Best::Nobody => r,
+        Best::Won(_, _) => flagged(r),
+    }
+}
+
+// Seam: what a unit that has a flag set shows, found by the pairs.
+pub fn repicked(n: u16, x: LockUnit) -> Next
+    requires { ⌜ n ≤ cores ⌝ }
+    ensures { λ v. ⌜ v ≡ repicked n x ⌝ }
+{
+    shown_as(next_of(n, x), true)
+}
+
+// The unit in which core k moved, after its flag was passed on and another is next, where that is so.
+fn resettled(n: u16, x: LockUnit, k: CoreNo, c: Change) -> LockUnit
+    requires { ⌜ (n ≤ cores) × (k .0 < cores) × Within (c .winner) ⌝ }
+    ensures { λ y. ⌜ y ≡ resettled n c x ⌝ }
+{
+    let b = c.winner;
+    let w = passed_to(b, k);
+    let i = w.0 as usize;
+    let r = x.registers[i];
+    if c.repick {
+        let y = registered(x, w, with_flag(r, b));
+        showing(y, repicked(n, y))
+    } else {
+        x
+    }
+}
+
+// Seam: the unit in which core k changed so.
+pub fn changed(n: u16, x: LockUnit, k: CoreNo, c: Change) -> LockUnit
+    requires { ⌜ (n ≤ cores) × (k .0 < cores) × Within (c .winner) ⌝ }
+    ensures { λ y. ⌜ y ≡ changed n k c x ⌝ }
+{
+    let r = c.register;
+    let v = c.next;
+    resettled(n, showing(registered(x, k, r), v), k, c)
 }

@@ -25,14 +25,14 @@ pub fn compare(a: Ticket, b: Ticket) -> Comparison
     ensures { λ r. ⌜ r ≡ compare (a .0) (b .0) ⌝ }
 {
     let d = behind(a, b);
-    if d == 0 {
-        return Comparison::Same;
+    if d > 32768 {
+        return Comparison::Older;
     }
     if d == 32768 {
         return Comparison::Opposite;
     }
-    if d > 32768 {
-        Comparison::Older
+    if d == 0 {
+        Comparison::Same
     } else {
         Comparison::Younger
     }

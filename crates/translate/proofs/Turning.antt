@@ -21,7 +21,9 @@ use Rattle.block.specs.declared.table.Table.{Table}
 use Rattle.lines.specs.Bytes.{letterE}
 use Rattle.lines.specs.Reading.{readStep}
 use Rattle.headers.specs.Header.{readHeader}
+use Rattle.digits.specs.Text.{Puts}
 use Rattle.digits.specs.Room.{fits, wrote, left}
+use Rattle.digits.proofs.Pasting.{written as put-so}
 use Rattle.expected.specs.Expected.{expectedBytes}
 use Rattle.writing.specs.Writing.{headerBytes, wroteHeader, leftHeader}
 use Rattle.headers.specs.declared.reading.HeaderLine.{HeaderLine}
@@ -190,6 +192,26 @@ module _
           let u = unwritten here out line next (y .table) (steps + 1) w o (wrote-so .0) (wrote-so .1) full in
           let z = ends NoRoom (turned ∙ u .0) in
           (e ∙ z .0, u .1 ∙ z .1)
+
+-- a line that is put, and the run that goes on with the table that is put together from its units
+pub answers-on :
+    (s : List ℕ) (place at steps : ℕ) (t : Table) (fit : Bool) (out o : List ℕ) (whole : Ended Known Stop) →
+    fit ≡ sound t →
+    whole ≡ call (runAt place at t steps) s out →
+    (d : Todo) →
+    d ≡ due s place steps fit →
+    (x : Step) (next : ℕ) →
+    d ≡ Work x next →
+    (y : Stepped) →
+    y ≡ onSound t x →
+    (p : ℕ) →
+    Puts out o at p (expectedBytes (steps + 1) (y .answer) (y .ticket) (y .grants)) →
+    (z : Table) →
+    z ≡ y .table →
+    whole ≡ call (runAt next p z (steps + 1)) s o
+answers-on s place at steps t fit out o whole sure so d says x next is y does p put z e =
+    answers s place at steps t fit out whole sure so d says x next is y does (Next p) o (put-so put) p refl ∙
+    ap (λ (m : Table). call (runAt next p m (steps + 1)) s o) (sym e)
 
 -- the run of a call whose header is read
 pub begins :

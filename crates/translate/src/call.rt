@@ -1,5 +1,9 @@
 // One call: lines are read, worked and answered until one stops the run, which then stands at its start.
 use block::Table;
+use block::gathered;
+use block::nexts_of;
+use block::rows_of;
+use block::unit_with;
 use building::build;
 use digits::Written;
 use headers::HeaderLine;
@@ -7,8 +11,12 @@ use parts::Counts;
 use places::core_place;
 use places::other_place;
 use places::unit_place;
+use plan::Part;
 use plan::Plan;
 use plan::plan_step;
+use settling::passed_to;
+use settling::repicked;
+use settling::with_flag;
 use stops::Run;
 use stops::Stop;
 use stops::Stopped;
@@ -62,34 +70,57 @@ fn put_line(out: &mut [u8], at: usize, number: u32, x: Plan) -> usize
     expected::put_expected(out, at, number, answer, ticket, grants)
 }
 
-// The step lines from where the run stands, on a table of which it is known whether it is sound. A step's plan
-// is put back in place.
+// The step lines from where the run stands, on a table of which it is known whether it is sound. Its units are worked apart:
+// what becomes of a unit is put back where it stands, unit j before i, since where both are the same the second stays.
 fn step_lines(run: Run, fit: bool, script: &[u8], out: &mut [u8]) -> Stopped
     requires { ⌜ (run .headed ≡ true) × (fit ≡ sound (run .table)) ⌝ }
     ensures { λ r. ⌜ (r ≡ stopped (call run (now (script .entry)) (now (out .entry)))) × (now (out .exit) ≡ output (call run (now (script .entry)) (now (out .entry)))) ⌝ }
 {
     let mut at = run;
     let mut table = run.table;
+    let mut rows = rows_of(table);
+    let mut nexts = nexts_of(table);
     loop {
         match due(script, at.place, at.steps, fit) {
-            Todo::Stop(why) => return stopped(at, table, why),
+            Todo::Stop(why) => return stopped(at, gathered(table, rows, nexts), why),
             Todo::Work(s, next) => {
-                let k = core_place(s).0 as usize;
+                let o = core_place(s);
+                let k = o.0 as usize;
                 let c = table.cores[k];
                 let i = unit_place(s, c).0 as usize;
                 let j = other_place(s, c).0 as usize;
-                let x = table.units[i];
-                let y = table.units[j];
+                let x = Part::of(rows[i][k], nexts[i]);
+                let y = Part::of(rows[j][k], nexts[j]);
                 let p = plan_step(s, table.counts, table.counter, table.cores, c, x, y);
                 if !line_fits(out.len(), at.wrote, at.steps + 1, p) {
-                    return stopped(at, table, Stop::NoRoom); // 23
+                    return stopped(at, gathered(table, rows, nexts), Stop::NoRoom); // 23
                 }
-                let first = p.first;
-                let second = p.second;
+                let a = p.first;
+                let b = p.second;
                 let core = p.core;
                 let counter = p.counter;
-                table.units[j] = second;
-                table.units[i] = first;
+                if p.moves {
+                    let q = b.register;
+                    let z = b.next;
+                    rows[j][k] = q;
+                    nexts[j] = z;
+                    if b.repick {
+                        let m = b.winner;
+                        let w = passed_to(m, o).0 as usize;
+                        rows[j][w] = with_flag(rows[j][w], m);
+                        nexts[j] = repicked(table.counts.cores, unit_with(rows[j], nexts[j]));
+                    }
+                    let r = a.register;
+                    let v = a.next;
+                    rows[i][k] = r;
+                    nexts[i] = v;
+                    if a.repick {
+                        let m = a.winner;
+                        let w = passed_to(m, o).0 as usize;
+                        rows[i][w] = with_flag(rows[i][w], m);
+                        nexts[i] = repicked(table.counts.cores, unit_with(rows[i], nexts[i]));
+                    }
+                }
                 table.cores[k] = core;
                 table.counter = counter;
                 at.steps += 1;

@@ -5,7 +5,6 @@ use mathlib.Core.Path.{_≡_, sym, _∙_}
 use Rattle.ticket.specs.declared.kinds.Ticket.{Ticket}
 use Rattle.parts.specs.State.{twoStage}
 use Rattle.parts.specs.declared.kinds.Core.{Core}
-use Rattle.settling.specs.Line.{stored}
 use Rattle.settling.specs.declared.line.Best.{Best}
 use Rattle.effects.specs.Effect.{hold, heir, inherit, wait, poll}
 use Rattle.effects.specs.declared.kinds.Effect.{Effect}
@@ -17,34 +16,20 @@ module _ (m : Ticket) (c : Core) (flag : Bool) (b : Best) (e : Effect) where
   holds set is = rw set is
 
   module _ (two : Bool) (says : two ≡ twoStage (c .state)) (clear : flag ≡ false) where
-    inherits : (w : Best) (n : Ticket) → two ≡ true → w ≡ b → n ≡ heir (c .own) w → e ≡ inherit m c n → e ≡ poll m c flag b
-    inherits w n t ew en is = rw (clear, sym says ∙ t) (rw (en, ew) at is)
+    inherits : (n : Ticket) → two ≡ true → n ≡ heir (c .own) b → e ≡ inherit m c n → e ≡ poll m c flag b
+    inherits n t en is = rw (clear, sym says ∙ t) (rw en at is)
 
     waits : two ≡ false → e ≡ wait m c → e ≡ poll m c flag b
     waits o is = rw (clear, sym says ∙ o) is
-
-cast-i : tie.Need-cast-i
-cast-i c = search needs
-
-mul-r : tie.Need-mul-r
-mul-r c = search needs
-
-element-copy-out-r : tie.Need-element-copy-out-r
-element-copy-out-r c = search needs
 
 hold-requires : tie.Need-hold-requires
 hold-requires c κs = search needs
 
 returns : tie.Need-returns
-returns c =
-    let a = c .before .before .before .before .before .args in
-    holds (a .counter) (a .c) _ (stored (a .x)) _ (c .before .if1 .taken) (c .hold .ensures)
+returns c = search (holds, needs)
 
 two-stage-requires : tie.Need-two-stage-requires
 two-stage-requires c κs = search needs
-
-stored-requires : tie.Need-stored-requires
-stored-requires c κs = search needs
 
 heir-requires : tie.Need-heir-requires
 heir-requires c κs = search needs
@@ -53,30 +38,21 @@ inherit-requires : tie.Need-inherit-requires
 inherit-requires c κs = search needs
 
 returns-2 : tie.Need-returns-2
-returns-2 c =
-    let a = c .before .before .before .before .before .before .before .before .before .args in
-    inherits (a .counter) (a .c) _ (stored (a .x)) _ _ (c .before .before .before .before .two-stage .ensures) (c .before .before .before .before .before .if1 .left) _ _
-    (c .before .before .before .if2 .taken) (c .before .before .stored .ensures) (c .before .heir .ensures) (c .inherit .ensures)
+returns-2 c = search (inherits, needs)
 
 wait-requires : tie.Need-wait-requires
 wait-requires c κs = search needs
 
 returns-3 : tie.Need-returns-3
-returns-3 c =
-    let a = c .before .before .before .before .before .before .before .args in
-    waits (a .counter) (a .c) _ (stored (a .x)) _ _ (c .before .before .two-stage .ensures) (c .before .before .before .if1 .left) (c .before .if2 .left) (c .wait .ensures)
+returns-3 c = search (waits, needs)
 
 pub poll-spec : {M : Type 1} → statement M
 poll-spec =
     tie.close
     (tie.spec
-    cast-i
-    mul-r
-    element-copy-out-r
     hold-requires
     returns
     two-stage-requires
-    stored-requires
     heir-requires
     inherit-requires
     returns-2

@@ -5,8 +5,6 @@ use mathlib.Core.Path.{_≡_, sym, _∙_, ap}
 use Rattle.ticket.specs.declared.kinds.Ticket.{Ticket}
 use Rattle.parts.specs.declared.kinds.Core.{Core}
 use Rattle.parts.specs.declared.answer.Step.{Step}
-use Rattle.parts.specs.Parts.{registerIn}
-use Rattle.settling.specs.Line.{stored}
 use Rattle.settling.specs.declared.line.Best.{Best}
 use Rattle.effects.specs.Effect.{stepEffect}
 use Rattle.effects.specs.declared.kinds.Effect.{Effect}
@@ -59,32 +57,32 @@ release-requires c κs = search needs
 returns : tie.Need-returns
 returns c =
     let a = c .before .before .before .before .args in
-    by-letter (a .counter) (a .c) (registerIn (a .y) (a .k .0) .flag) (stored (a .x)) (a .s) _ _ (c .before .before .s .given .1) (c .request .ensures)
+    by-letter (a .counter) (a .c) (a .flag) (a .b) (a .s) _ _ (c .before .before .s .given .1) (c .request .ensures)
 
 returns-2 : tie.Need-returns-2
 returns-2 c =
     let a = c .before .before .before .before .args in
-    by-letter (a .counter) (a .c) (registerIn (a .y) (a .k .0) .flag) (stored (a .x)) (a .s) _ _ (c .before .before .s2 .given .1) (c .nest .ensures)
+    by-letter (a .counter) (a .c) (a .flag) (a .b) (a .s) _ _ (c .before .before .s2 .given .1) (c .nest .ensures)
 
 returns-3 : tie.Need-returns-3
 returns-3 c =
     let a = c .before .before .before .args in
-    by-letter (a .counter) (a .c) (registerIn (a .y) (a .k .0) .flag) (stored (a .x)) (a .s) _ _ (c .before .enum-told .given .1) (c .poll .ensures)
+    by-letter (a .counter) (a .c) (a .flag) (a .b) (a .s) _ _ (c .before .enum-told .given .1) (c .poll .ensures)
 
 returns-4 : tie.Need-returns-4
 returns-4 c =
     let a = c .before .before .before .args in
-    by-letter (a .counter) (a .c) (registerIn (a .y) (a .k .0) .flag) (stored (a .x)) (a .s) _ _ (c .before .enum-told2 .given .1) (c .interrupt .ensures)
+    by-letter (a .counter) (a .c) (a .flag) (a .b) (a .s) _ _ (c .before .enum-told2 .given .1) (c .interrupt .ensures)
 
 returns-5 : tie.Need-returns-5
 returns-5 c =
     let a = c .before .before .before .args in
-    by-letter (a .counter) (a .c) (registerIn (a .y) (a .k .0) .flag) (stored (a .x)) (a .s) _ _ (c .before .enum-told3 .given .1) (c .come-back .ensures)
+    by-letter (a .counter) (a .c) (a .flag) (a .b) (a .s) _ _ (c .before .enum-told3 .given .1) (c .come-back .ensures)
 
 returns-6 : tie.Need-returns-6
 returns-6 c =
     let a = c .before .before .before .args in
-    by-letter (a .counter) (a .c) (registerIn (a .y) (a .k .0) .flag) (stored (a .x)) (a .s) _ _ (c .before .enum-told4 .given .1) (c .release .ensures)
+    by-letter (a .counter) (a .c) (a .flag) (a .b) (a .s) _ _ (c .before .enum-told4 .given .1) (c .release .ensures)
 
 pub step-effect-spec : {M : Type 1} → statement M
 step-effect-spec =

@@ -1,25 +1,37 @@
--- `logs::call::log_lines` meets its contract: what is still to be answered stays the same from turn to turn, on a sound table that a program holds;
--- the measure is what is left of the log. A step's plan, put back in place, is the step.
-use Prim.Native.Nat.{ℕ, _-_, _<_}
+-- `logs::call::log_lines` meets its contract: what is still to be answered stays the same from turn to turn, on a sound table that a program holds,
+-- put together from the units that the run works apart; the measure is what is left of the log. A step's plan, put back where the units stand, is
+-- the step.
+use Prim.Native.Nat.{ℕ, _+_, _-_, _≤_, _<_}
 use mathlib.Core.Bool.{true}
-use mathlib.Core.Path.{_≡_, refl, sym, _∙_, ap, subst}
+use mathlib.Core.Logic.{⊎-elim}
+use mathlib.Core.Path.{_≡_, refl, sym, _∙_, ap, ap₂, subst}
 use native.Mathlib.Omega.{arith}
+use lib.Dec.{lit<}
 use lib.ListN.{length}
-use borrow.Author.Needs.{needs}
+use borrow.Author.Needs.{needs, scaled-fits, fits-under}
+use Rattle.ticket.specs.declared.kinds.CoreNo.{CoreNo}
 use Rattle.parts.specs.Parts.{cores, units}
+use Rattle.settling.specs.Line.{Within}
+use Rattle.settling.specs.Settle.{passedTo, repicked}
+use Rattle.settling.specs.declared.line.Best.{Best}
+use Rattle.settling.proofs.NextInLine.{passed-within}
+use Rattle.block.specs.Apart.{gathered}
 use Rattle.block.specs.PutBack.{putBack}
 use Rattle.block.specs.Sound.{sound}
 use Rattle.block.specs.Steps.{onSound, step}
 use Rattle.block.specs.Table.{coreOf}
 use Rattle.block.specs.declared.stepped.Stepped.{Stepped}
-use Rattle.block.proofs.InPlace.{core-in, unit-in, other-in, counted, in-place}
+use Rattle.block.specs.declared.table.Table.{Table}
+use Rattle.block.proofs.InPlace.{core-in, unit-in, other-in, counted, granted-in, in-place}
+use Rattle.block.proofs.Rows.{rows-long, nexts-long, gathered-back, read-at, Put, puts-light, puts-again, Back, back-both, back-none, gathered-stepped}
 use Rattle.laws.proofs.Claims.{on-sound, keeps-sound}
 use Rattle.writing.specs.Claims.{Small}
 use Rattle.calls.specs.Placed.{runAt}
 use Rattle.room.specs.Claims.{Held}
 use Rattle.room.proofs.Lines.{held-step}
-use Rattle.logs.specs.Due.{Timely}
+use Rattle.logs.specs.Due.{Timely, stoppedAt}
 use Rattle.logs.specs.Checking.{checkCall}
+use Rattle.logs.specs.declared.call.LogStop.the-variants.{Plain}
 use Rattle.logs.proofs.Accepted.{given-small}
 use Rattle.logs.proofs.Turning.{due-halts, ends}
 use Rattle.logs.proofs.Going.{timely, halts, given-same, line-ends, line-moved, line-goes, begins}
@@ -27,234 +39,553 @@ use Rattle.logs.proofs.call.log_lines.Statement.{statement}
 use Rattle.logs.proofs.call.log_lines.Tie as tie
 
 abbrev Inv-loop : tie.InvT-loop
-Inv-loop log at₀ table₀ space₀ at table space =
-    (checkCall (runAt (at₀ .place) (at₀ .wrote) table₀ (at₀ .steps)) log ≡ checkCall (runAt (at .place) (at .wrote) table (at .steps)) log)
+Inv-loop log at₀ table₀ rows₀ nexts₀ space₀ at table rows nexts space =
+    let t = gathered table rows nexts in
+    (checkCall (runAt (at₀ .place) (at₀ .wrote) (gathered table₀ rows₀ nexts₀) (at₀ .steps)) log ≡ checkCall (runAt (at .place) (at .wrote) t (at .steps)) log)
     × (at .wrote ≡ at₀ .wrote)
-    × (sound table ≡ true)
-    × Held table
+    × (sound t ≡ true)
+    × Held t
+    × (length rows ≡ units)
+    × (length nexts ≡ units)
 
 abbrev μ-loop : tie.MeasureT-loop
-μ-loop log at₀ table₀ space₀ at table space = length log - at .place
+μ-loop log at₀ table₀ rows₀ nexts₀ space₀ at table rows nexts space = length log - at .place
 
--- What each place of the code knows: the start of a turn, the line read, the places, the plan
+-- What each place of the code knows: the start, the start of a turn, the line read, the places, the plan
+
+began : (c : tie.After-nexts-of Inv-loop μ-loop) → let t = c .before .before .before .before .args .run .table in gathered t (c .before .rows-of .result) (c .nexts-of .result) ≡ t
+began c =
+    let t = c .before .before .before .before .args .run .table in
+    ap₂ (gathered t) (c .before .rows-of .ensures) (c .nexts-of .ensures) ∙ gathered-back t
+
+abbrev table-of : tie.At-loop Inv-loop μ-loop → Table
+table-of c = gathered (c .loop .table) (c .loop .rows) (c .loop .nexts)
 
 abbrev loop-of : tie.After-plan-step Inv-loop μ-loop → tie.At-loop Inv-loop μ-loop
-loop-of c = c .before .before .before .before .before .before .before .before .before .before .before .before .before .before .before .before .before
+loop-of c = c .before .before .before .before .before .before .before .before .before .before .before .before .before .before .before .before .before .before .before .before .before
 
 abbrev line-of : tie.After-plan-step Inv-loop μ-loop → tie.After-s Inv-loop μ-loop
-line-of c = c .before .before .before .before .before .before .before .before .before .before .before .before .before .before
+line-of c = c .before .before .before .before .before .before .before .before .before .before .before .before .before .before .before .before .before .before
 
 abbrev core-of : tie.After-plan-step Inv-loop μ-loop → tie.After-core-place Inv-loop μ-loop
-core-of c = c .before .before .before .before .before .before .before .before .before .before .before .before
+core-of c = c .before .before .before .before .before .before .before .before .before .before .before .before .before .before .before .before
 
 abbrev unit-of : tie.After-plan-step Inv-loop μ-loop → tie.After-unit-place Inv-loop μ-loop
-unit-of c = c .before .before .before .before .before .before .before .before .before
+unit-of c = c .before .before .before .before .before .before .before .before .before .before .before .before .before
 
 abbrev other-of : tie.After-plan-step Inv-loop μ-loop → tie.After-other-place Inv-loop μ-loop
-other-of c = c .before .before .before .before .before .before .before
+other-of c = c .before .before .before .before .before .before .before .before .before .before .before
 
 -- what still is to be answered is what was at the start
 so-far :
     (c : tie.At-loop Inv-loop μ-loop) →
-    let a = c .before .before .before .args in
+    let a = c .before .before .before .before .before .args in
     let l = c .loop in
-    checkCall (a .run) (a .log .now) ≡ checkCall (runAt (l .at .place) (l .at .wrote) (l .table) (l .at .steps)) (a .log .now)
+    checkCall (a .run) (a .log .now) ≡ checkCall (runAt (l .at .place) (l .at .wrote) (table-of c) (l .at .steps)) (a .log .now)
 so-far c =
-    let s = c .before .before .before in
+    let s = c .before .before .before .before .before in
     let a = s .args in
-    begins (a .run) (a .log .now) (s .pre .0) ∙ c .loop .inv .0
+    begins (a .run) (a .log .now) (s .pre .0)
+    ∙ ap (λ (t : Table). checkCall (runAt (a .run .place) (a .run .wrote) t (a .run .steps)) (a .log .now)) (sym (began (c .before)))
+    ∙ c .loop .inv .0
 
 -- a line whose step is to be worked
 line :
     (c : tie.After-s Inv-loop μ-loop) →
-    let a = c .before .before .before .before .before .before .args in
+    let a = c .before .before .before .before .before .before .before .before .args in
     let l = c .before .before .before .loop in
     Timely (a .log .now) (l .at .place) (l .at .steps) (c .s .given .0 .0) (c .s .given .0 .1 .0)
 line c =
-    let a = c .before .before .before .before .before .before .args in
+    let a = c .before .before .before .before .before .before .before .before .args in
     let l = c .before .before .before .loop in
     let due = c .before .before .line-due in
     let g = c .s .given in
     timely (a .log .now) (l .at .place) (l .at .steps) (due .result) (g .0 .0) (g .0 .1 .0) (due .ensures) (g .1)
 
-fit : (c : tie.After-s Inv-loop μ-loop) → sound (c .before .before .before .loop .table) ≡ true
+fit : (c : tie.After-s Inv-loop μ-loop) → sound (table-of (c .before .before .before)) ≡ true
 fit c = c .before .before .before .loop .inv .2
+
+even : (c : tie.At-loop Inv-loop μ-loop) → length (c .loop .rows) ≡ length (c .loop .nexts)
+even c = c .loop .inv .4 ∙ sym (c .loop .inv .5)
 
 core-at : (c : tie.After-core-place Inv-loop μ-loop) → c .core-place .result .0 < cores
 core-at c = core-in (c .before .before .s .given .0 .0) _ (c .core-place .ensures)
 
 unit-at : (c : tie.After-unit-place Inv-loop μ-loop) → c .unit-place .result .0 < units
-unit-at c = unit-in (c .before .before .before .before .before .s .given .0 .0) (coreOf (c .before .before .before .before .before .before .before .before .loop .table) (c .before .before .before .core-place .result .0)) _ (c .unit-place .ensures)
+unit-at c =
+    unit-in (c .before .before .before .before .before .s .given .0 .0) (coreOf (table-of (c .before .before .before .before .before .before .before .before)) (c .before .before .before .core-place .result .0)) _ (c .unit-place .ensures)
 
 other-at : (c : tie.After-other-place Inv-loop μ-loop) → c .other-place .result .0 < units
-other-at c = other-in (c .before .before .before .before .before .before .before .s .given .0 .0) (coreOf (c .before .before .before .before .before .before .before .before .before .before .loop .table) (c .before .before .before .before .before .core-place .result .0)) _ (c .other-place .ensures)
+other-at c =
+    other-in (c .before .before .before .before .before .before .before .s .given .0 .0) (coreOf (table-of (c .before .before .before .before .before .before .before .before .before .before)) (c .before .before .before .before .before .core-place .result .0)) _ (c .other-place .ensures)
 
 -- the plan put back is the step
 abbrev stepped : tie.After-plan-step Inv-loop μ-loop → Stepped
-stepped c = putBack (loop-of c .loop .table) (core-of c .core-place .result) (unit-of c .unit-place .result) (other-of c .other-place .result) (c .plan-step .result)
+stepped c = putBack (table-of (loop-of c)) (core-of c .core-place .result) (unit-of c .unit-place .result) (other-of c .other-place .result) (c .plan-step .result)
 
-does : (c : tie.After-plan-step Inv-loop μ-loop) → stepped c ≡ onSound (loop-of c .loop .table) (line-of c .s .given .0 .0)
+does : (c : tie.After-plan-step Inv-loop μ-loop) → stepped c ≡ onSound (table-of (loop-of c)) (line-of c .s .given .0 .0)
 does c =
-    let l = loop-of c .loop in
-    in-place (l .table) (line-of c .s .given .0 .0) _ _ _ _ _ (l .inv .3 .shaped) (fit (line-of c)) (core-of c .core-place .ensures)
-    (unit-of c .unit-place .ensures) (other-of c .other-place .ensures) (c .plan-step .ensures) refl
+    let o = loop-of c in
+    let l = o .loop in
+    let k = core-of c .core-place .result in
+    in-place (table-of o) (line-of c .s .given .0 .0) _ _ _ _ _ _ _ (l .inv .3 .shaped) (fit (line-of c)) (core-of c .core-place .ensures)
+    (unit-of c .unit-place .ensures) (other-of c .other-place .ensures)
+    (read-at (l .rows) (l .nexts) (unit-of c .unit-place .result .0) (k .0) _ (even o) (c .before .before .before .before .before .before .before .of .ensures))
+    (read-at (l .rows) (l .nexts) (other-of c .other-place .result .0) (k .0) _ (even o) (c .before .before .before .before .of2 .ensures))
+    (c .plan-step .ensures) refl
 
-steps-so : (c : tie.After-plan-step Inv-loop μ-loop) → step (loop-of c .loop .table) (line-of c .s .given .0 .0) ≡ stepped c
-steps-so c = on-sound (loop-of c .loop .table) (line-of c .s .given .0 .0) (fit (line-of c)) ∙ sym (does c)
+steps-so : (c : tie.After-plan-step Inv-loop μ-loop) → step (table-of (loop-of c)) (line-of c .s .given .0 .0) ≡ stepped c
+steps-so c = on-sound (table-of (loop-of c)) (line-of c .s .given .0 .0) (fit (line-of c)) ∙ sym (does c)
+
+-- A step that moves: its places, and the core that is granted
+
+abbrev plan-of : tie.After-z Inv-loop μ-loop → tie.After-plan-step Inv-loop μ-loop
+plan-of c = c .before .before .before .before .before .before .before .before .before .before .before .before .before
+
+k-at : (c : tie.After-z Inv-loop μ-loop) → core-of (plan-of c) .core-place .result .0 < cores
+k-at c = core-at (core-of (plan-of c))
+
+i-at : (c : tie.After-z Inv-loop μ-loop) → unit-of (plan-of c) .unit-place .result .0 < units
+i-at c = unit-at (unit-of (plan-of c))
+
+j-at : (c : tie.After-z Inv-loop μ-loop) → other-of (plan-of c) .other-place .result .0 < units
+j-at c = other-at (other-of (plan-of c))
+
+few : (c : tie.After-z Inv-loop μ-loop) → loop-of (plan-of c) .loop .table .counts .cores ≤ cores
+few c = counted (table-of (loop-of (plan-of c))) (fit (line-of (plan-of c)))
+
+granted : (c : tie.After-z Inv-loop μ-loop) → let p = plan-of c .plan-step .result in Within (p .first .winner) × Within (p .second .winner)
+granted c =
+    let p = plan-of c in
+    let t = table-of (loop-of p) in
+    granted-in (line-of p .s .given .0 .0) (t .counts) (t .counter) (t .cores) (coreOf t (core-of p .core-place .result .0)) _ _ _ (p .plan-step .ensures)
+
+passed-at : (b : Best) (k w : CoreNo) → Within b → k .0 < cores → w ≡ passedTo b k → w .0 < cores
+passed-at b k w h l e = rw e (passed-within b k h l)
+
+second-at : (c : tie.After-passed-to Inv-loop μ-loop) → c .passed-to .result .0 < cores
+second-at c =
+    let z = c .before .before in
+    passed-at (plan-of z .plan-step .result .second .winner) (core-of (plan-of z) .core-place .result) _ (granted z .1) (k-at z) (c .passed-to .ensures)
+
+first-at : (c : tie.After-passed-to2 Inv-loop μ-loop) → c .passed-to2 .result .0 < cores
+first-at c =
+    let z = c .before .before .before .before .before in
+    passed-at (plan-of z .plan-step .result .first .winner) (core-of (plan-of z) .core-place .result) _ (granted z .0) (k-at z) (c .passed-to2 .ensures)
+
+-- What is put back: the second unit, and both or none
+
+abbrev z-of : tie.Joined2 Inv-loop μ-loop → tie.After-z Inv-loop μ-loop
+z-of c = c .before
+
+second-put :
+    (c : tie.Joined2 Inv-loop μ-loop) →
+    let p = plan-of (z-of c) in
+    let l = loop-of p .loop in
+    Put (l .table .counts .cores) (core-of p .core-place .result) (p .plan-step .result .second) (other-of p .other-place .result .0) (l .rows) (l .nexts)
+    (c .if2 .rows) (c .if2 .nexts)
+second-put c =
+    let p = plan-of (z-of c) in
+    let o = loop-of p in
+    let l = o .loop in
+    let n = l .table .counts .cores in
+    let k = core-of p .core-place .result in
+    let j = other-of p .other-place .result in
+    let d = p .plan-step .result .second in
+    ⊎-elim
+    (λ w. puts-again n k d (j .0) (l .rows) (l .nexts) (even o) (w .1 .result) (w .4 .result) (w .8 .result) (c .if2 .rows) (c .if2 .nexts)
+    (subst (λ (m : ℕ). j .0 < m) (sym (l .inv .4)) (j-at (z-of c))) (w .0 .taken) (w .1 .ensures) (w .4 .ensures)
+    (w .8 .ensures ∙ ap (repicked n) (w .7 .ensures)) (w .9) (w .10))
+    (λ w. puts-light n k d (j .0) (l .rows) (l .nexts) (even o) (c .if2 .rows) (c .if2 .nexts) (w .0 .left) (w .1) (w .2))
+    (c .if2 .came)
+
+abbrev planned : tie.Joined1 Inv-loop μ-loop → tie.After-plan-step Inv-loop μ-loop
+planned c = c .before .before .before .before .before .before .before .before .before .before .before
+
+put-back :
+    (c : tie.Joined1 Inv-loop μ-loop) →
+    let p = planned c in
+    let l = loop-of p .loop in
+    Back (l .table) (core-of p .core-place .result) (unit-of p .unit-place .result) (other-of p .other-place .result) (p .plan-step .result) (l .rows) (l .nexts)
+    (c .if1 .rows) (c .if1 .nexts)
+put-back c =
+    let p = planned c in
+    let l = loop-of p .loop in
+    let n = l .table .counts .cores in
+    let k = core-of p .core-place .result in
+    let i = unit-of p .unit-place .result in
+    let j = other-of p .other-place .result in
+    let q = p .plan-step .result in
+    let i-in : i .0 < length (l .rows) = subst (λ (m : ℕ). i .0 < m) (sym (l .inv .4)) (unit-at (unit-of p)) in
+    ⊎-elim
+    (λ w.
+    let b = second-put (record { before = record { before = record { before = record { before = c .before; if1 = w .0 }; q = w .1 }; z = w .2 }; if2 = w .3 }) in
+    back-both (l .table) k i j q (l .rows) (l .nexts) (w .3 .rows) (w .3 .nexts) (c .if1 .rows) (c .if1 .nexts) (w .0 .taken) b
+    (puts-again n k (q .first) (i .0) (w .3 .rows) (w .3 .nexts) (b .rows-so ∙ even (loop-of p) ∙ sym (b .nexts-so)) (w .7 .result) (w .10 .result) (w .14 .result)
+    (c .if1 .rows) (c .if1 .nexts) (subst (λ (m : ℕ). i .0 < m) (sym (b .rows-so)) i-in) (w .6 .taken) (w .7 .ensures) (w .10 .ensures)
+    (w .14 .ensures ∙ ap (repicked n) (w .13 .ensures)) (w .15) (w .16)))
+    (⊎-elim
+    (λ w.
+    let b = second-put (record { before = record { before = record { before = record { before = c .before; if1 = w .0 }; q = w .1 }; z = w .2 }; if2 = w .3 }) in
+    back-both (l .table) k i j q (l .rows) (l .nexts) (w .3 .rows) (w .3 .nexts) (c .if1 .rows) (c .if1 .nexts) (w .0 .taken) b
+    (puts-light n k (q .first) (i .0) (w .3 .rows) (w .3 .nexts) (b .rows-so ∙ even (loop-of p) ∙ sym (b .nexts-so)) (c .if1 .rows) (c .if1 .nexts)
+    (w .6 .left) (w .7) (w .8)))
+    (λ w. back-none (l .table) k i j q (l .rows) (l .nexts) (c .if1 .rows) (c .if1 .nexts) (w .0 .left) (w .1) (w .2)))
+    (c .if1 .came)
+
+rows-of-requires : tie.Need-rows-of-requires Inv-loop μ-loop
+rows-of-requires c κs = tt
+
+nexts-of-requires : tie.Need-nexts-of-requires Inv-loop μ-loop
+nexts-of-requires c κs = tt
 
 loop-holds : tie.Need-loop-holds Inv-loop μ-loop
-loop-holds c = let s = c .before .before in (refl, refl, s .pre .1, s .pre .2)
+loop-holds c =
+    let s = c .before .before .before .before in
+    let t = s .args .run .table in
+    let long = s .pre .2 .shaped .units-long in (
+      refl,
+      refl,
+      ap sound (began c) ∙ s .pre .1,
+      subst Held (sym (began c)) (s .pre .2),
+      ap length (c .before .rows-of .ensures) ∙ rows-long t long,
+      ap length (c .nexts-of .ensures) ∙ nexts-long t long,
+    )
 
 line-due-requires : tie.Need-line-due-requires Inv-loop μ-loop
-line-due-requires c κs = search needs
+line-due-requires c κs = tt
 
 enum-known-why : tie.Need-enum-known-why Inv-loop μ-loop
 enum-known-why c = search needs
 
+gathered-requires : tie.Need-gathered-requires Inv-loop μ-loop
+gathered-requires c κs = tt
+
 stopped-requires : tie.Need-stopped-requires Inv-loop μ-loop
-stopped-requires c κs = search needs
+stopped-requires c κs = tt
 
 returns : tie.Need-returns Inv-loop μ-loop
 returns c =
-    let o = c .before .before .before .before .before in
-    let a = o .before .before .before .args in
+    let o = c .before .before .before .before .before .before in
+    let a = c .before .before .before .before .before .before .before .before .before .before .before .args in
     let l = o .loop in
-    let due = c .before .before .before .before .line-due in
-    let g = c .before .before .why .given in
-    ends (a .log .now) (l .at .place) (l .at .wrote) (l .table) (l .at .steps) (a .run) _ _ (l .inv .1) (so-far o)
-    (due-halts (a .log .now) (l .at .place) (l .at .wrote) (l .table) (l .at .steps) (g .0 .0)
-    (halts (a .log .now) (l .at .place) (l .at .steps) (due .result) (g .0 .0) (due .ensures) (g .1))) (c .stopped .ensures)
+    let due = c .before .before .before .before .before .line-due in
+    let g = c .before .before .before .why .given in
+    let same : c .before .gathered .result ≡ table-of o = c .before .gathered .ensures in
+    ends (a .log .now) (l .at .place) (l .at .wrote) (table-of o) (l .at .steps) (a .run) _ _ (l .inv .1) (so-far o)
+    (due-halts (a .log .now) (l .at .place) (l .at .wrote) (table-of o) (l .at .steps) (g .0 .0)
+    (halts (a .log .now) (l .at .place) (l .at .steps) (due .result) (g .0 .0) (due .ensures) (g .1)))
+    (c .stopped .ensures ∙ ap (λ (t : Table). stoppedAt (l .at .place) (l .at .wrote) t (l .at .steps) (Plain (g .0 .0))) same)
 
 enum-known-s : tie.Need-enum-known-s Inv-loop μ-loop
 enum-known-s c = search needs
 
 core-place-requires : tie.Need-core-place-requires Inv-loop μ-loop
-core-place-requires c κs = search needs
+core-place-requires c κs = tt
 
 cast-k : tie.Need-cast-k Inv-loop μ-loop
-cast-k c = omega (arith, core-at (c .before))
+cast-k c = fits-under _ _ _ (core-at (c .before)) tt
 
 mul-c : tie.Need-mul-c Inv-loop μ-loop
-mul-c c = omega (arith, core-at (c .before))
+mul-c c = scaled-fits _ _ _ (core-at (c .before)) (lit< tt)
 
 element-copy-out-c : tie.Need-element-copy-out-c Inv-loop μ-loop
 element-copy-out-c c = core-at (c .before)
 
 unit-place-requires : tie.Need-unit-place-requires Inv-loop μ-loop
-unit-place-requires c κs = search needs
+unit-place-requires c κs = tt
 
 cast-i : tie.Need-cast-i Inv-loop μ-loop
-cast-i c = omega (arith, unit-at (c .before))
+cast-i c = fits-under _ _ _ (unit-at (c .before)) tt
 
 other-place-requires : tie.Need-other-place-requires Inv-loop μ-loop
-other-place-requires c κs = search needs
+other-place-requires c κs = tt
 
 cast-j : tie.Need-cast-j Inv-loop μ-loop
-cast-j c = omega (arith, other-at (c .before))
+cast-j c = fits-under _ _ _ (other-at (c .before)) tt
 
-mul-x : tie.Need-mul-x Inv-loop μ-loop
-mul-x c = omega (arith, unit-at (c .before .before .before))
+mul-of : tie.Need-mul-of Inv-loop μ-loop
+mul-of c = scaled-fits _ _ _ (unit-at (c .before .before .before)) (lit< tt)
 
-element-copy-out-x : tie.Need-element-copy-out-x Inv-loop μ-loop
-element-copy-out-x c = unit-at (c .before .before .before)
+mul-of-2 : tie.Need-mul-of-2 Inv-loop μ-loop
+mul-of-2 c = scaled-fits _ _ _ (core-at (c .before .before .before .before .before .before)) (lit< tt)
 
-mul-y : tie.Need-mul-y Inv-loop μ-loop
-mul-y c = omega (arith, other-at (c .before .before))
+index-1-of : tie.Need-index-1-of Inv-loop μ-loop
+index-1-of c = unit-at (c .before .before .before)
 
-element-copy-out-y : tie.Need-element-copy-out-y Inv-loop μ-loop
-element-copy-out-y c = other-at (c .before .before)
+index-2-of : tie.Need-index-2-of Inv-loop μ-loop
+index-2-of c = core-at (c .before .before .before .before .before .before)
+
+mul-of-3 : tie.Need-mul-of-3 Inv-loop μ-loop
+mul-of-3 c = scaled-fits _ _ _ (unit-at (c .before .before .before .before)) (lit< tt)
+
+array-copy-out-of : tie.Need-array-copy-out-of Inv-loop μ-loop
+array-copy-out-of c = unit-at (c .before .before .before .before)
+
+of-requires : tie.Need-of-requires Inv-loop μ-loop
+of-requires c κs = tt
+
+mul-of-4 : tie.Need-mul-of-4 Inv-loop μ-loop
+mul-of-4 c = scaled-fits _ _ _ (other-at (c .before .before .before .before)) (lit< tt)
+
+mul-of-5 : tie.Need-mul-of-5 Inv-loop μ-loop
+mul-of-5 c = scaled-fits _ _ _ (core-at (c .before .before .before .before .before .before .before .before .before)) (lit< tt)
+
+index-1-of-2 : tie.Need-index-1-of-2 Inv-loop μ-loop
+index-1-of-2 c = other-at (c .before .before .before .before)
+
+index-2-of-2 : tie.Need-index-2-of-2 Inv-loop μ-loop
+index-2-of-2 c = core-at (c .before .before .before .before .before .before .before .before .before)
+
+mul-of-6 : tie.Need-mul-of-6 Inv-loop μ-loop
+mul-of-6 c = scaled-fits _ _ _ (other-at (c .before .before .before .before .before)) (lit< tt)
+
+array-copy-out-of-2 : tie.Need-array-copy-out-of-2 Inv-loop μ-loop
+array-copy-out-of-2 c = other-at (c .before .before .before .before .before)
+
+of-requires-2 : tie.Need-of-requires-2 Inv-loop μ-loop
+of-requires-2 c κs = tt
 
 plan-step-requires : tie.Need-plan-step-requires Inv-loop μ-loop
-plan-step-requires c κs = let s = c .before .before .before .before .before .before .before .before .before .before .before .before .before in counted (s .before .before .before .loop .table) (fit s)
+plan-step-requires c κs = counted (table-of (c .before .before .before .before .before .before .before .before .before .before .before .before .before .before .before .before .before .before .before .before)) (fit (c .before .before .before .before .before .before .before .before .before .before .before .before .before .before .before .before .before))
 
 given-by-requires : tie.Need-given-by-requires Inv-loop μ-loop
-given-by-requires c κs = search needs
+given-by-requires c κs = tt
 
 line-meets-requires : tie.Need-line-meets-requires Inv-loop μ-loop
 line-meets-requires c κs =
     let p = c .before .before .before in
-    let l = loop-of p .loop in
+    let o = loop-of p in
     let x = line-of p .s .given .0 .0 in (
       (x, line (line-of p) .reads),
-      subst Small (sym (given-same (l .table) x (fit (line-of p)) (stepped p) (does p) (c .before .given-by .result) (c .before .given-by .ensures)))
-          (given-small (l .table) x (l .inv .3) (fit (line-of p))),
+      subst Small (sym (given-same (table-of o) x (fit (line-of p)) (stepped p) (does p) (c .before .given-by .result) (c .before .given-by .ensures)))
+          (given-small (table-of o) x (o .loop .inv .3) (fit (line-of p))),
     )
 
 enum-known-why-2 : tie.Need-enum-known-why-2 Inv-loop μ-loop
 enum-known-why-2 c = search needs
 
+gathered-requires-2 : tie.Need-gathered-requires-2 Inv-loop μ-loop
+gathered-requires-2 c κs = tt
+
 stopped-requires-2 : tie.Need-stopped-requires-2 Inv-loop μ-loop
-stopped-requires-2 c κs = search needs
+stopped-requires-2 c κs = tt
 
 -- 40, and 21
 returns-2 : tie.Need-returns-2 Inv-loop μ-loop
 returns-2 c =
-    let p = c .before .before .before .before .before .before .before .before in
+    let p = c .before .before .before .before .before .before .before .before .before in
     let o = loop-of p in
-    let a = o .before .before .before .args in
+    let a = c .before .before .before .before .before .before .before .before .before .before .before .before .before .before .before .before .before .before .before .before .before .before .before .before .before .before .before .before .before .before .before .before .before .before .before .args in
     let l = o .loop in
     let i = line-of p in
-    let given = c .before .before .before .before .before .before .given-by in
-    let met = c .before .before .before .before .line-meets in
-    let g = c .before .before .why2 .given in
-    line-ends (a .log .now) (l .at .place) (l .at .wrote) (l .table) (l .at .steps) (i .s .given .0 .0) (i .s .given .0 .1 .0) (line i) (fit i) (stepped p) (does p)
-    (given .result) (given .ensures) (met .result) (met .ensures) (a .run) _ (g .0 .0) (l .inv .1) (so-far o) (g .1) (c .stopped2 .ensures)
+    let given = c .before .before .before .before .before .before .before .given-by in
+    let met = c .before .before .before .before .before .line-meets in
+    let g = c .before .before .before .why2 .given in
+    let same : c .before .gathered2 .result ≡ table-of o = c .before .gathered2 .ensures in
+    line-ends (a .log .now) (l .at .place) (l .at .wrote) (table-of o) (l .at .steps) (i .s .given .0 .0) (i .s .given .0 .1 .0) (line i) (fit i) (stepped p) (does p)
+    (given .result) (given .ensures) (met .result) (met .ensures) (a .run) _ (g .0 .0) (l .inv .1) (so-far o) (g .1)
+    (c .stopped2 .ensures ∙ ap (λ (t : Table). stoppedAt (l .at .place) (l .at .wrote) t (l .at .steps) (g .0 .0)) same)
 
 enum-known-next : tie.Need-enum-known-next Inv-loop μ-loop
 enum-known-next c = search needs
 
-mul-second : tie.Need-mul-second Inv-loop μ-loop
-mul-second c = omega (arith, other-at (other-of (c .before .before .before .before .before .before .before .before .before .before)))
+mul-q : tie.Need-mul-q Inv-loop μ-loop
+mul-q c = scaled-fits _ _ _ (j-at c) (lit< tt)
 
-element-set-from-second : tie.Need-element-set-from-second Inv-loop μ-loop
-element-set-from-second c = other-at (other-of (c .before .before .before .before .before .before .before .before .before .before))
+mul-q-2 : tie.Need-mul-q-2 Inv-loop μ-loop
+mul-q-2 c = scaled-fits _ _ _ (k-at c) (lit< tt)
 
-mul-first : tie.Need-mul-first Inv-loop μ-loop
-mul-first c = omega (arith, unit-at (unit-of (c .before .before .before .before .before .before .before .before .before .before)))
+index-1-q : tie.Need-index-1-q Inv-loop μ-loop
+index-1-q c = j-at c
 
-element-set-from-first : tie.Need-element-set-from-first Inv-loop μ-loop
-element-set-from-first c = unit-at (unit-of (c .before .before .before .before .before .before .before .before .before .before))
+index-2-q : tie.Need-index-2-q Inv-loop μ-loop
+index-2-q c = k-at c
+
+mul-nexts : tie.Need-mul-nexts Inv-loop μ-loop
+mul-nexts c = scaled-fits _ _ _ (j-at c) (lit< tt)
+
+array-set-from-nexts : tie.Need-array-set-from-nexts Inv-loop μ-loop
+array-set-from-nexts c = j-at c
+
+passed-to-requires : tie.Need-passed-to-requires Inv-loop μ-loop
+passed-to-requires c κs = tt
+
+cast-w : tie.Need-cast-w Inv-loop μ-loop
+cast-w c = fits-under _ _ _ (second-at (c .before)) tt
+
+mul-with-flag : tie.Need-mul-with-flag Inv-loop μ-loop
+mul-with-flag c = scaled-fits _ _ _ (j-at (c .before .before .before)) (lit< tt)
+
+mul-with-flag-2 : tie.Need-mul-with-flag-2 Inv-loop μ-loop
+mul-with-flag-2 c = scaled-fits _ _ _ (second-at (c .before)) (lit< tt)
+
+index-1-with-flag : tie.Need-index-1-with-flag Inv-loop μ-loop
+index-1-with-flag c = j-at (c .before .before .before)
+
+index-2-with-flag : tie.Need-index-2-with-flag Inv-loop μ-loop
+index-2-with-flag c = second-at (c .before)
+
+with-flag-requires : tie.Need-with-flag-requires Inv-loop μ-loop
+with-flag-requires c κs = tt
+
+mul-t93 : tie.Need-mul-t93 Inv-loop μ-loop
+mul-t93 c = scaled-fits _ _ _ (j-at (c .before .before .before .before .before)) (lit< tt)
+
+mul-t96 : tie.Need-mul-t96 Inv-loop μ-loop
+mul-t96 c = scaled-fits _ _ _ (second-at (c .before .before .before)) (lit< tt)
+
+index-1-rows : tie.Need-index-1-rows Inv-loop μ-loop
+index-1-rows c = j-at (c .before .before .before .before .before)
+
+index-2-rows : tie.Need-index-2-rows Inv-loop μ-loop
+index-2-rows c = second-at (c .before .before .before)
+
+mul-unit-with : tie.Need-mul-unit-with Inv-loop μ-loop
+mul-unit-with c = scaled-fits _ _ _ (j-at (c .before .before .before .before .before)) (lit< tt)
+
+array-copy-out-unit-with : tie.Need-array-copy-out-unit-with Inv-loop μ-loop
+array-copy-out-unit-with c = j-at (c .before .before .before .before .before)
+
+mul-unit-with-2 : tie.Need-mul-unit-with-2 Inv-loop μ-loop
+mul-unit-with-2 c = scaled-fits _ _ _ (j-at (c .before .before .before .before .before .before)) (lit< tt)
+
+array-copy-out-unit-with-2 : tie.Need-array-copy-out-unit-with-2 Inv-loop μ-loop
+array-copy-out-unit-with-2 c = j-at (c .before .before .before .before .before .before)
+
+unit-with-requires : tie.Need-unit-with-requires Inv-loop μ-loop
+unit-with-requires c κs = tt
+
+repicked-requires : tie.Need-repicked-requires Inv-loop μ-loop
+repicked-requires c κs = few (c .before .before .before .before .before .before .before .before)
+
+mul-nexts-2 : tie.Need-mul-nexts-2 Inv-loop μ-loop
+mul-nexts-2 c = scaled-fits _ _ _ (j-at (c .before .before .before .before .before .before .before .before .before)) (lit< tt)
+
+array-set-from-nexts-2 : tie.Need-array-set-from-nexts-2 Inv-loop μ-loop
+array-set-from-nexts-2 c = j-at (c .before .before .before .before .before .before .before .before .before)
+
+mul-r : tie.Need-mul-r Inv-loop μ-loop
+mul-r c = scaled-fits _ _ _ (i-at (c .before .before .before)) (lit< tt)
+
+mul-r-2 : tie.Need-mul-r-2 Inv-loop μ-loop
+mul-r-2 c = scaled-fits _ _ _ (k-at (c .before .before .before)) (lit< tt)
+
+index-1-r : tie.Need-index-1-r Inv-loop μ-loop
+index-1-r c = i-at (c .before .before .before)
+
+index-2-r : tie.Need-index-2-r Inv-loop μ-loop
+index-2-r c = k-at (c .before .before .before)
+
+mul-nexts-3 : tie.Need-mul-nexts-3 Inv-loop μ-loop
+mul-nexts-3 c = scaled-fits _ _ _ (i-at (c .before .before .before)) (lit< tt)
+
+array-set-from-nexts-3 : tie.Need-array-set-from-nexts-3 Inv-loop μ-loop
+array-set-from-nexts-3 c = i-at (c .before .before .before)
+
+passed-to-requires-2 : tie.Need-passed-to-requires-2 Inv-loop μ-loop
+passed-to-requires-2 c κs = tt
+
+cast-w-2 : tie.Need-cast-w-2 Inv-loop μ-loop
+cast-w-2 c = fits-under _ _ _ (first-at (c .before)) tt
+
+mul-with-flag-3 : tie.Need-mul-with-flag-3 Inv-loop μ-loop
+mul-with-flag-3 c = scaled-fits _ _ _ (i-at (c .before .before .before .before .before .before)) (lit< tt)
+
+mul-with-flag-4 : tie.Need-mul-with-flag-4 Inv-loop μ-loop
+mul-with-flag-4 c = scaled-fits _ _ _ (first-at (c .before)) (lit< tt)
+
+index-1-with-flag-2 : tie.Need-index-1-with-flag-2 Inv-loop μ-loop
+index-1-with-flag-2 c = i-at (c .before .before .before .before .before .before)
+
+index-2-with-flag-2 : tie.Need-index-2-with-flag-2 Inv-loop μ-loop
+index-2-with-flag-2 c = first-at (c .before)
+
+with-flag-requires-2 : tie.Need-with-flag-requires-2 Inv-loop μ-loop
+with-flag-requires-2 c κs = tt
+
+mul-t125 : tie.Need-mul-t125 Inv-loop μ-loop
+mul-t125 c = scaled-fits _ _ _ (i-at (c .before .before .before .before .before .before .before .before)) (lit< tt)
+
+mul-t128 : tie.Need-mul-t128 Inv-loop μ-loop
+mul-t128 c = scaled-fits _ _ _ (first-at (c .before .before .before)) (lit< tt)
+
+index-1-rows-2 : tie.Need-index-1-rows-2 Inv-loop μ-loop
+index-1-rows-2 c = i-at (c .before .before .before .before .before .before .before .before)
+
+index-2-rows-2 : tie.Need-index-2-rows-2 Inv-loop μ-loop
+index-2-rows-2 c = first-at (c .before .before .before)
+
+mul-unit-with-3 : tie.Need-mul-unit-with-3 Inv-loop μ-loop
+mul-unit-with-3 c = scaled-fits _ _ _ (i-at (c .before .before .before .before .before .before .before .before)) (lit< tt)
+
+array-copy-out-unit-with-3 : tie.Need-array-copy-out-unit-with-3 Inv-loop μ-loop
+array-copy-out-unit-with-3 c = i-at (c .before .before .before .before .before .before .before .before)
+
+mul-unit-with-4 : tie.Need-mul-unit-with-4 Inv-loop μ-loop
+mul-unit-with-4 c = scaled-fits _ _ _ (i-at (c .before .before .before .before .before .before .before .before .before)) (lit< tt)
+
+array-copy-out-unit-with-4 : tie.Need-array-copy-out-unit-with-4 Inv-loop μ-loop
+array-copy-out-unit-with-4 c = i-at (c .before .before .before .before .before .before .before .before .before)
+
+unit-with-requires-2 : tie.Need-unit-with-requires-2 Inv-loop μ-loop
+unit-with-requires-2 c κs = tt
+
+repicked-requires-2 : tie.Need-repicked-requires-2 Inv-loop μ-loop
+repicked-requires-2 c κs = few (c .before .before .before .before .before .before .before .before .before .before .before)
+
+mul-nexts-4 : tie.Need-mul-nexts-4 Inv-loop μ-loop
+mul-nexts-4 c = scaled-fits _ _ _ (i-at (c .before .before .before .before .before .before .before .before .before .before .before .before)) (lit< tt)
+
+array-set-from-nexts-4 : tie.Need-array-set-from-nexts-4 Inv-loop μ-loop
+array-set-from-nexts-4 c = i-at (c .before .before .before .before .before .before .before .before .before .before .before .before)
 
 mul-core : tie.Need-mul-core Inv-loop μ-loop
-mul-core c = omega (arith, core-at (core-of (c .before .before .before .before .before .before .before .before .before .before)))
+mul-core c = scaled-fits _ _ _ (core-at (core-of (planned c))) (lit< tt)
 
 element-set-from-core : tie.Need-element-set-from-core Inv-loop μ-loop
-element-set-from-core c = core-at (core-of (c .before .before .before .before .before .before .before .before .before .before))
+element-set-from-core c = core-at (core-of (planned c))
 
 add-at : tie.Need-add-at Inv-loop μ-loop
-add-at c = omega (arith, line (line-of (c .before .before .before .before .before .before .before .before .before .before .before)) .early)
+add-at c = omega (arith, line (line-of (planned (c .before))) .early)
 
 loop-less : tie.Need-loop-less Inv-loop μ-loop
 loop-less c =
-    let p = c .before .before .before .before .before .before .before .before .before .before .before in
+    let p = planned (c .before) in
     let o = loop-of p in
-    let a = o .before .before .before .args in
+    let a = c .before .before .before .before .before .before .before .before .before .before .before .before .before .before .before .before .before .before .before .before .before .before .before .before .before .before .before .before .before .before .before .before .before .before .before .before .before .before .args in
     let l = o .loop in
     let i = line-of p in
-    let given = c .before .before .before .before .before .before .before .before .before .given-by in
-    let met = c .before .before .before .before .before .before .before .line-meets in
-    let g = c .before .before .before .before .before .next .given in
-    let m = line-moved (a .log .now) (l .at .place) (l .at .wrote) (l .table) (l .at .steps) (i .s .given .0 .0) (i .s .given .0 .1 .0) (line i) (fit i) (stepped p)
+    let given = c .before .before .before .before .before .before .before .before .before .before .given-by in
+    let met = c .before .before .before .before .before .before .before .before .line-meets in
+    let g = c .before .before .before .before .before .before .next .given in
+    let m = line-moved (a .log .now) (l .at .place) (l .at .wrote) (table-of o) (l .at .steps) (i .s .given .0 .0) (i .s .given .0 .1 .0) (line i) (fit i) (stepped p)
     (does p) (given .result) (given .ensures) (met .result) (met .ensures) (g .0 .0) (g .1) in
     omega (arith, m .0, m .1)
 
 loop-again : tie.Need-loop-again Inv-loop μ-loop
 loop-again c =
-    let p = c .before .before .before .before .before .before .before .before .before .before .before in
+    let p = planned (c .before) in
     let o = loop-of p in
-    let a = o .before .before .before .args in
+    let a = c .before .before .before .before .before .before .before .before .before .before .before .before .before .before .before .before .before .before .before .before .before .before .before .before .before .before .before .before .before .before .before .before .before .before .before .before .before .before .args in
     let l = o .loop in
     let i = line-of p in
+    let given = c .before .before .before .before .before .before .before .before .before .before .given-by in
+    let met = c .before .before .before .before .before .before .before .before .line-meets in
+    let g = c .before .before .before .before .before .before .next .given in
     let x = i .s .given .0 .0 in
-    let given = c .before .before .before .before .before .before .before .before .before .given-by in
-    let met = c .before .before .before .before .before .before .before .line-meets in
-    let g = c .before .before .before .before .before .next .given in (
+    let back = put-back (c .before) in
+    let e : _ ≡ stepped p .table = gathered-stepped (l .table) (core-of p .core-place .result) (unit-of p .unit-place .result) (other-of p .other-place .result)
+    (p .plan-step .result) (l .rows) (l .nexts) (c .before .if1 .rows) (c .before .if1 .nexts) back in (
       l .inv .0
-          ∙ line-goes (a .log .now) (l .at .place) (l .at .wrote) (l .table) (l .at .steps) x (i .s .given .0 .1 .0) (line i) (fit i) (stepped p) (does p)
-          (given .result) (given .ensures) (met .result) (met .ensures) (g .0 .0) (g .1),
+          ∙ line-goes (a .log .now) (l .at .place) (l .at .wrote) (table-of o) (l .at .steps) x (i .s .given .0 .1 .0) (line i) (fit i) (stepped p) (does p)
+          (given .result) (given .ensures) (met .result) (met .ensures) (g .0 .0) (g .1)
+          ∙ ap (λ (t : Table). checkCall (runAt (g .0 .0) (l .at .wrote) t (l .at .steps + 1)) (a .log .now)) (sym e),
       l .inv .1,
-      subst (λ (y : Stepped). sound (y .table) ≡ true) (steps-so p) (keeps-sound (l .table) x (l .inv .3 .shaped) (fit i) .0),
-      subst (λ (y : Stepped). Held (y .table)) (steps-so p) (held-step (l .table) x (l .inv .3) (fit i)),
+      ap sound e ∙ subst (λ (y : Stepped). sound (y .table) ≡ true) (steps-so p) (keeps-sound (table-of o) x (l .inv .3 .shaped) (fit i) .0),
+      subst Held (sym e) (subst (λ (y : Stepped). Held (y .table)) (steps-so p) (held-step (table-of o) x (l .inv .3) (fit i))),
+      back .rows-so ∙ l .inv .4,
+      back .nexts-so ∙ l .inv .5,
     )
 
 pub log-lines-spec : {M : Type 1} → statement M
@@ -263,9 +594,12 @@ log-lines-spec =
     (tie.spec
     Inv-loop
     μ-loop
+    rows-of-requires
+    nexts-of-requires
     loop-holds
     line-due-requires
     enum-known-why
+    gathered-requires
     stopped-requires
     returns
     enum-known-s
@@ -277,21 +611,78 @@ log-lines-spec =
     cast-i
     other-place-requires
     cast-j
-    mul-x
-    element-copy-out-x
-    mul-y
-    element-copy-out-y
+    mul-of
+    mul-of-2
+    index-1-of
+    index-2-of
+    mul-of-3
+    array-copy-out-of
+    of-requires
+    mul-of-4
+    mul-of-5
+    index-1-of-2
+    index-2-of-2
+    mul-of-6
+    array-copy-out-of-2
+    of-requires-2
     plan-step-requires
     given-by-requires
     line-meets-requires
     enum-known-why-2
+    gathered-requires-2
     stopped-requires-2
     returns-2
     enum-known-next
-    mul-second
-    element-set-from-second
-    mul-first
-    element-set-from-first
+    mul-q
+    mul-q-2
+    index-1-q
+    index-2-q
+    mul-nexts
+    array-set-from-nexts
+    passed-to-requires
+    cast-w
+    mul-with-flag
+    mul-with-flag-2
+    index-1-with-flag
+    index-2-with-flag
+    with-flag-requires
+    mul-t93
+    mul-t96
+    index-1-rows
+    index-2-rows
+    mul-unit-with
+    array-copy-out-unit-with
+    mul-unit-with-2
+    array-copy-out-unit-with-2
+    unit-with-requires
+    repicked-requires
+    mul-nexts-2
+    array-set-from-nexts-2
+    mul-r
+    mul-r-2
+    index-1-r
+    index-2-r
+    mul-nexts-3
+    array-set-from-nexts-3
+    passed-to-requires-2
+    cast-w-2
+    mul-with-flag-3
+    mul-with-flag-4
+    index-1-with-flag-2
+    index-2-with-flag-2
+    with-flag-requires-2
+    mul-t125
+    mul-t128
+    index-1-rows-2
+    index-2-rows-2
+    mul-unit-with-3
+    array-copy-out-unit-with-3
+    mul-unit-with-4
+    array-copy-out-unit-with-4
+    unit-with-requires-2
+    repicked-requires-2
+    mul-nexts-4
+    array-set-from-nexts-4
     mul-core
     element-set-from-core
     add-at

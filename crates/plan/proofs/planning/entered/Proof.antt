@@ -7,16 +7,19 @@ use Rattle.plan.proofs.planning.entered.Tie as tie
 enter-requires : tie.Need-enter-requires
 enter-requires c κs = search needs
 
+staying-requires : tie.Need-staying-requires
+staying-requires c κs = search needs
+
 one-grant-requires : tie.Need-one-grant-requires
 one-grant-requires c κs = search needs
 
-with-units-requires : tie.Need-with-units-requires
-with-units-requires c κs = search needs
+with-changes-requires : tie.Need-with-changes-requires
+with-changes-requires c κs = search needs
 
 returns : tie.Need-returns
-returns c =
-    let a = c .before .before .before .before .args in
-    enters (a .e) (a .k) (a .x) (a .y) _ _ (a .u) (a .t) _ (c .before .before .before .enter .ensures) (c .before .one-grant .ensures) (c .with-units .ensures)
+returns c = search (enters, needs)
 
 pub entered-spec : {M : Type 1} → statement M
-entered-spec = tie.close (tie.spec enter-requires one-grant-requires with-units-requires returns)
+entered-spec =
+    tie.close
+    (tie.spec enter-requires staying-requires one-grant-requires with-changes-requires returns)

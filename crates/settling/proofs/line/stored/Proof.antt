@@ -1,20 +1,20 @@
 -- `settling::line::stored` meets its contract: the same two cases, by the test.
 use borrow.Author.Needs.{needs}
-use mathlib.Core.Bool.{Bool, true, false, cond, _&&_}
-use mathlib.Core.Path.{_≡_, sym}
+use mathlib.Core.Bool.{true, false, _&&_}
+use mathlib.Core.Path.{_≡_}
 use lib.Dec.{ltb}
 use Rattle.parts.specs.Parts.{cores}
-use Rattle.parts.specs.declared.kinds.LockUnit.{LockUnit}
+use Rattle.parts.specs.declared.kinds.Next.{Next}
 use Rattle.settling.specs.Line.{stored}
 use Rattle.settling.specs.declared.line.Best.the-variants.{Nobody, Won}
 use Rattle.settling.proofs.line.stored.Statement.{statement}
 use Rattle.settling.proofs.line.stored.Tie as tie
 
-module _ (x : LockUnit) where
-  someone : (x .next .valid && ltb (x .next .core .0) cores) ≡ true → Won (x .next .core) (x .next .ticket) ≡ stored x
+module _ (v : Next) where
+  someone : (v .valid && ltb (v .core .0) cores) ≡ true → Won (v .core) (v .ticket) ≡ stored v
   someone e = rw e
 
-  no-one : (x .next .valid && ltb (x .next .core .0) cores) ≡ false → Nobody ≡ stored x
+  no-one : (v .valid && ltb (v .core .0) cores) ≡ false → Nobody ≡ stored v
   no-one e = rw e
 
 cast-i : tie.Need-cast-i

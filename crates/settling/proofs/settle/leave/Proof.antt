@@ -1,89 +1,55 @@
--- `settling::settle::leave` meets its contract: the flag that is tested is the register's own, and whoever a unit shows as next is one of the
--- array.
+-- `settling::settle::leave` meets its contract: the flag that is tested is the register's own.
 use borrow.Author.Needs.{needs}
-use Prim.Native.Nat.{ℕ}
-use mathlib.Core.Bool.{Bool, true, false, cond}
-use mathlib.Core.Path.{_≡_, sym, subst}
+use mathlib.Core.Bool.{Bool, true, false}
+use mathlib.Core.Path.{_≡_}
 use Rattle.ticket.specs.declared.kinds.CoreNo.{CoreNo}
-use Rattle.parts.specs.Parts.{blank, registerIn, registered}
+use Rattle.parts.specs.Parts.{blank}
 use Rattle.parts.specs.declared.kinds.Register.{Register}
-use Rattle.parts.specs.declared.kinds.LockUnit.{LockUnit}
-use Rattle.settling.specs.Line.{stored, Within}
-use Rattle.settling.specs.Settle.{repicked, isNext, passed, leave}
+use Rattle.parts.specs.declared.kinds.Next.{Next}
+use Rattle.settling.specs.Line.{stored}
+use Rattle.settling.specs.Settle.{becomes, isNext, passed, leave}
 use Rattle.settling.specs.declared.line.Best.{Best}
 use Rattle.settling.specs.declared.line.Best.the-variants.{Nobody}
-use Rattle.settling.specs.declared.settle.Settled.{Settled}
-use Rattle.settling.proofs.NextInLine.{stored-within}
+use Rattle.settling.specs.declared.settle.Change.{Change}
 use Rattle.settling.proofs.settle.leave.Statement.{statement}
 use Rattle.settling.proofs.settle.leave.Tie as tie
 
-within : (x : LockUnit) (b : Best) → b ≡ stored x → Within b
-within x b is = subst Within (sym is) (stored-within x)
+module _ (r : Register) (v : Next) (k : CoreNo) (c : Change) where
+  hands-on : (b : Best) → r .flag ≡ true → b ≡ stored v → c ≡ passed b → c ≡ leave r v k
+  hands-on b e eb ec = rw (ec, eb, e)
 
-module _ (n : ℕ) (x y : LockUnit) (k : CoreNo) (q : Register) (none : q ≡ blank) (is : y ≡ registered x (k .0) q) where
-  hands-on :
-      (b : Best) (s : Settled) → registerIn x (k .0) .flag ≡ true → b ≡ stored x → s ≡ passed n y b → s ≡ leave n x k
-  hands-on b s e eb es = rw (es, eb, is, none, e)
-
-  stands-by :
-      (b : Bool) (z : LockUnit) →
-      registerIn x (k .0) .flag ≡ false →
-      b ≡ isNext x k →
-      z ≡ cond b (repicked n y) y →
-      _≡_ {A = Settled} (record { unit = z; winner = Nobody }) (leave n x k)
-  stands-by b z e eb ez = rw (ez, eb, is, none, e)
-
-cast-i : tie.Need-cast-i
-cast-i c = search needs
-
-mul-r : tie.Need-mul-r
-mul-r c = search needs
-
-element-copy-out-r : tie.Need-element-copy-out-r
-element-copy-out-r c = search needs
-
-blank-requires : tie.Need-blank-requires
-blank-requires c κs = search needs
-
-registered-requires : tie.Need-registered-requires
-registered-requires c κs = search needs
+  stands-by : (q : Register) (p : Bool) → r .flag ≡ false → q ≡ blank → p ≡ isNext v k → c ≡ becomes q v Nobody p → c ≡ leave r v k
+  stands-by q p e eq ep ec = rw (ec, ep, eq, e)
 
 stored-requires : tie.Need-stored-requires
 stored-requires c κs = search needs
 
 passed-requires : tie.Need-passed-requires
-passed-requires c κs = search (within, needs)
+passed-requires c κs = search needs
+
+blank-requires : tie.Need-blank-requires
+blank-requires c κs = search needs
 
 is-next-requires : tie.Need-is-next-requires
 is-next-requires c κs = search needs
 
-left-requires : tie.Need-left-requires
-left-requires c κs = search needs
+becomes-requires : tie.Need-becomes-requires
+becomes-requires c κs = search needs
 
 returns : tie.Need-returns
-returns c =
-    let a = c .before .before .before .before .before .before .before .args in
-    hands-on (a .n) (a .t2) _ (a .k) _ (c .before .before .before .before .blank .ensures) (c .before .before .before .registered .ensures) _ _ (c .before .before .if1 .taken) (c .before .stored .ensures)
-    (c .passed .ensures)
+returns c = search (hands-on, needs)
 
 returns-2 : tie.Need-returns-2
-returns-2 c =
-    let a = c .before .before .before .before .before .before .before .args in
-    stands-by (a .n) (a .t2) _ (a .k) _ (c .before .before .before .before .blank .ensures) (c .before .before .before .registered .ensures) _ _ (c .before .before .if1 .left) (c .before .is-next .ensures)
-    (c .left .ensures)
+returns-2 c = search (stands-by, needs)
 
 pub leave-spec : {M : Type 1} → statement M
 leave-spec =
     tie.close
     (tie.spec
-    cast-i
-    mul-r
-    element-copy-out-r
-    blank-requires
-    registered-requires
     stored-requires
     passed-requires
+    blank-requires
     is-next-requires
-    left-requires
+    becomes-requires
     returns
     returns-2)

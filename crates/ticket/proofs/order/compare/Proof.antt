@@ -14,15 +14,15 @@ use Rattle.ticket.proofs.order.compare.Statement.{statement}
 use Rattle.ticket.proofs.order.compare.Tie as tie
 
 module _ (a b d : ℕ) (distance : d ≡ behind a b) where
-  of-same : d ≡ 0 → Same ≡ compare a b
-  of-same e = sym (compared a b Same (sym distance ∙ e))
+  -- n is the number of the test
+  of-older : (n : ℕ) → leb half n ≡ true → n < d → Older ≡ compare a b
+  of-older n least h = sym (compared a b Older (omega (arith, leb-true half n least)))
 
   of-opposite : d ≡ half → Opposite ≡ compare a b
   of-opposite e = sym (compared a b Opposite (sym distance ∙ e))
 
-  -- n is the number of the test
-  of-older : (n : ℕ) → leb half n ≡ true → n < d → Older ≡ compare a b
-  of-older n least h = sym (compared a b Older (omega (arith, leb-true half n least)))
+  of-same : d ≡ 0 → Same ≡ compare a b
+  of-same e = sym (compared a b Same (sym distance ∙ e))
 
   of-younger : (n : ℕ) → leb n half ≡ true → d ≢ 0 → d ≢ half → d ≤ n → Younger ≡ compare a b
   of-younger n most some other h = sym (compared a b Younger (omega arith, omega (arith, leb-true n half most)))
@@ -31,13 +31,13 @@ behind-requires : tie.Need-behind-requires
 behind-requires c κs = search needs
 
 returns : tie.Need-returns
-returns c = search of-same
+returns c = search of-older
 
 returns-2 : tie.Need-returns-2
 returns-2 c = search of-opposite
 
 returns-3 : tie.Need-returns-3
-returns-3 c = search of-older
+returns-3 c = search of-same
 
 returns-4 : tie.Need-returns-4
 returns-4 c = search of-younger

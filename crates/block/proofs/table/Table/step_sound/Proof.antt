@@ -2,7 +2,7 @@
 use borrow.Author.Needs.{needs}
 use Rattle.block.specs.Table.{coreOf}
 use Rattle.block.proofs.Held.{held}
-use Rattle.block.proofs.InPlace.{core-in, unit-in, other-in, counted, in-place}
+use Rattle.block.proofs.InPlace.{core-in, unit-in, other-in, counted, granted-in, in-place}
 use Rattle.block.proofs.table.Table.step_sound.Statement.{statement}
 use Rattle.block.proofs.table.Table.step_sound.Tie as tie
 
@@ -24,46 +24,36 @@ unit-place-requires c κs = search needs
 other-place-requires : tie.Need-other-place-requires
 other-place-requires c κs = search needs
 
-cast-first : tie.Need-cast-first
-cast-first c = search needs
+read-requires : tie.Need-read-requires
+read-requires c κs = (unit-in (c .before .before .before .before .before .args .s) (coreOf (c .before .before .before .before .before .args .t1) (c .before .before .before .before .core-place .result .0)) _ (c .before .unit-place .ensures), core-in (c .before .before .before .before .before .args .s) _ (c .before .before .before .before .core-place .ensures))
 
-cast-second : tie.Need-cast-second
-cast-second c = search needs
-
-mul-x : tie.Need-mul-x
-mul-x c = search needs
-
-element-copy-out-x : tie.Need-element-copy-out-x
-element-copy-out-x c =
-    let a = c .before .before .before .before .before .before .before .args in
-    unit-in (a .s) (coreOf (a .t1) (c .before .before .before .before .before .before .core-place .result .0)) _ (c .before .before .before .unit-place .ensures)
-
-mul-y : tie.Need-mul-y
-mul-y c = search needs
-
-element-copy-out-y : tie.Need-element-copy-out-y
-element-copy-out-y c =
-    let a = c .before .before .before .before .before .before .before .before .args in
-    other-in (a .s) (coreOf (a .t1) (c .before .before .before .before .before .before .before .core-place .result .0)) _ (c .before .before .before .other-place .ensures)
+read-requires-2 : tie.Need-read-requires-2
+read-requires-2 c κs = (other-in (c .before .before .before .before .before .before .args .s) (coreOf (c .before .before .before .before .before .before .args .t1) (c .before .before .before .before .before .core-place .result .0)) _ (c .before .other-place .ensures), core-in (c .before .before .before .before .before .before .args .s) _ (c .before .before .before .before .before .core-place .ensures))
 
 plan-step-requires : tie.Need-plan-step-requires
-plan-step-requires c κs = let b = c .before .before .before .before .before .before .before .before .before .before .before .before in counted (b .args .t1) (b .pre)
+plan-step-requires c κs = let s = c .before .before .before .before .before .before .before .before .before .before in counted (s .args .t1) (s .pre)
 
 put-back-requires : tie.Need-put-back-requires
 put-back-requires c κs =
-    let a = c .before .before .before .before .before .before .before .before .before .before .before .before .before .args in
-    let k = c .before .before .before .before .before .before .before .before .before .before .before .before .core-place in
-    let d = coreOf (a .t1) (k .result .0) in (
+    let s = c .before .before .before .before .before .before .before .before .before .before .before in
+    let a = s .args in
+    let k = c .before .before .before .before .before .before .before .before .before .before .core-place in
+    let d = coreOf (a .t1) (k .result .0) in
+    let g = granted-in (a .s) (a .t1 .counts) (a .t1 .counter) (a .t1 .cores) d _ _ _ (c .plan-step .ensures) in (
+      counted (a .t1) (s .pre),
       core-in (a .s) _ (k .ensures),
-      unit-in (a .s) d _ (c .before .before .before .before .before .before .before .before .before .unit-place .ensures),
-      other-in (a .s) d _ (c .before .before .before .before .before .before .before .before .other-place .ensures),
+      unit-in (a .s) d _ (c .before .before .before .before .before .before .before .unit-place .ensures),
+      other-in (a .s) d _ (c .before .before .before .before .before .before .other-place .ensures),
+      g .0,
+      g .1,
     )
 
 returns : tie.Need-returns
 returns c =
-    let b = c .before .before .before .before .before .before .before .before .before .before .before .before .before .before in
-    in-place (b .args .t1) (b .args .s) _ _ _ _ _ (held (b .args .t1) _ (b .good .0)) (b .pre) (c .before .before .before .before .before .before .before .before .before .before .before .before .before .core-place .ensures)
-    (c .before .before .before .before .before .before .before .before .before .before .unit-place .ensures) (c .before .before .before .before .before .before .before .before .before .other-place .ensures) (c .before .plan-step .ensures) (c .put-back .ensures)
+    let s = c .before .before .before .before .before .before .before .before .before .before .before .before in
+    in-place (s .args .t1) (s .args .s) _ _ _ _ _ _ _ (held (s .args .t1) _ (s .good .0)) (s .pre) (c .before .before .before .before .before .before .before .before .before .before .before .core-place .ensures)
+    (c .before .before .before .before .before .before .before .before .unit-place .ensures) (c .before .before .before .before .before .before .before .other-place .ensures) (c .before .before .before .before .before .before .read .ensures) (c .before .before .before .before .before .read2 .ensures) (c .before .plan-step .ensures)
+    (c .put-back .ensures)
 
 pub step-sound-spec : {M : Type 1} → statement M
 step-sound-spec =
@@ -75,12 +65,8 @@ step-sound-spec =
     element-copy-out-c
     unit-place-requires
     other-place-requires
-    cast-first
-    cast-second
-    mul-x
-    element-copy-out-x
-    mul-y
-    element-copy-out-y
+    read-requires
+    read-requires-2
     plan-step-requires
     put-back-requires
     returns)
