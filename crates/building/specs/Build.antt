@@ -1,6 +1,5 @@
--- "Cores 1 to 8. First-class units 1 to 8; second-class units 0 to 8." "Fresh: every core idle, no register valid, no flag set.
--- Building with counts outside these ranges is refused with 20 and yields the fresh table of one core, one first-class unit, no
--- second-class unit, counter 0."
+-- "Fresh: every core idle, no register valid, no flag set. Building with counts outside these ranges is refused with 20 and yields
+-- the fresh table of one core, one first-class unit, no second-class unit, counter 0."
 use mathlib.Core.Bool.{cond}
 use lib.ListN.{replicate}
 use Rattle.ticket.specs.Kinds.{ticket}

@@ -3,6 +3,7 @@ use crate::bytes::half;
 use crate::bytes::word;
 use crate::next::put_next;
 use crate::register::put_register;
+use crate::table::IMAGE_UNITS;
 use crate::table::counts;
 use crate::table::units;
 use crate::text::field;
@@ -15,10 +16,10 @@ ghost use mathlib.Core.Path.{_≡_};
 ghost use lib.ListN.{length};
 
 // The most words that a case reads or lends.
-pub(crate) const WORDS_MOST: usize = 200;
+pub(crate) const WORDS_MOST: usize = 600;
 
 fn room() -> [u32; WORDS_MOST]
-    ensures { λ r. ⌜ 200 ≡ length r ⌝ }
+    ensures { λ r. ⌜ 600 ≡ length r ⌝ }
 {
     [0; WORDS_MOST]
 }
@@ -116,7 +117,7 @@ pub(crate) fn answer_writing(s: &[u8], out: &mut [u8], wrote: usize) -> usize {
 
 // The image written into the words lent.
 fn writing(s: &[u8], ws: &mut [u32], out: &mut [u8], wrote: usize) -> usize {
-    let a = images::write_image(counts(s), units(s, 9), ws);
+    let a = images::write_image(counts(s), units(s, IMAGE_UNITS), ws);
     let n = image_number(a);
     let to = head(out, wrote, b"O", n);
     if n != 0 {

@@ -2,16 +2,16 @@
 // with the second implementation.
 //
 // A case is a letter and what follows it. A u16 or u32 has its lowest byte first; a register is a u16
-// ticket, a u8 valid and a u8 flag, each of these 0 or not; a unit is 8 registers and its next in line,
-// which is a u16 ticket, a u16 core, a u8 valid and a u8 held; an answer is one line, its fields parted
-// by tabs, but for T.
+// ticket, a u8 valid and a u8 flag, each of these 0 or not; a unit is a register for each of `CORES`
+// cores and its next in line, which is a u16 ticket, a u16 core, a u8 valid and a u8 held; an answer is
+// one line, its fields parted by tabs, but for T.
 // - T: u16 length, and so many bytes of script. Answered with what the translator program writes for
 //   that script, and a line `--`.
 // - B: u16 bytes lent, u16 length, and so many bytes of script: one call of the translation, from the
 //   beginning. `B`, the stop's number, and how many bytes are written.
 // - G: u16 length, and so many bytes of log: one call of the check, from the beginning. `G`, the stop's
 //   number; then for 40 the line and the field, for 0 the steps that agreed, for any other the line.
-// - S: a table. u16 cores, first-class units, second-class units and counter; 8 cores of u16 own,
+// - S: a table. u16 cores, first-class units, second-class units and counter; `CORES` cores of u16 own,
 //   carried, first and second and u8 state (0 idle, 1 waiting, 2 holding, 3 waiting second, 4 holding
 //   both, from 5 on away); 16 units. `S`, and 1 if it is sound, else 0.
 // - M: a step by a method of the table. The table as in S; u8 letter (0 R, 1 N, 2 P, 3 I, 4 C, from 5 on
@@ -19,10 +19,10 @@
 //   grants, unit and core of each; and the table handed back, its numbers in the order of S.
 // - W: u32, a register word. `W`, 30; or `W`, 0, ticket, valid and flag.
 // - P: a register. `P`, 30; or `P`, 0 and its word.
-// - I: u16 cores, first-class units, second-class units and number of words, at most 200; the words, a
+// - I: u16 cores, first-class units, second-class units and number of words, at most 600; the words, a
 //   u32 each. `I`, 20 or 30; or `I`, 0, and for each unit of the image ticket, valid and flag of each of
 //   its registers, and ticket, core, valid and held of its next in line.
-// - O: u16 cores, first-class units, second-class units and number of words lent, at most 200; 16
+// - O: u16 cores, first-class units, second-class units and number of words lent, at most 600; 16
 //   units. `O`, 20 or 30; or `O`, 0, and the image's words.
 // - H, L and E: a line by `write_header`, `write_step` or `write_expected`, into lent bytes which each
 //   hold `.`. u16 number of bytes lent, at most 64, and u16 place. Then for H, u16 cores, first-class
@@ -31,7 +31,7 @@
 //   2 on 2), and two times u16 unit and u16 core. The letter; 20, 23, or 0 and the next place; and
 //   each byte lent, as a number.
 //
-// A case that the end of the input cuts off, another letter, a number of words above 200 and one of bytes
+// A case that the end of the input cuts off, another letter, a number of words above 600 and one of bytes
 // lent above 64 end the program.
 mod bytes;
 mod image;
@@ -48,6 +48,8 @@ use bytes::half;
 use image::WORDS_MOST;
 use libc::STDIN_FILENO;
 use pieces::keep;
+use table::IMAGE_SIZE;
+use table::TABLE_SIZE;
 use text::eased;
 use text::flush;
 use text::put;
@@ -193,10 +195,10 @@ fn size(s: &[u8]) -> usize {
         return 3 + half(s, 1) as usize;
     }
     if letter == b'S' {
-        return 689;
+        return TABLE_SIZE;
     }
     if letter == b'M' {
-        return 694;
+        return TABLE_SIZE + 5;
     }
     if letter == b'W' {
         return 5;
@@ -208,7 +210,7 @@ fn size(s: &[u8]) -> usize {
         return image_size(s, 9 + 4 * half(s, 7) as usize);
     }
     if letter == b'O' {
-        return image_size(s, 617);
+        return image_size(s, IMAGE_SIZE);
     }
     writers_size(letter, half(s, 1) as usize)
 }

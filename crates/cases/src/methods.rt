@@ -3,6 +3,7 @@ use crate::bytes::byte;
 use crate::bytes::half;
 use crate::next::put_next;
 use crate::register::put_register;
+use crate::table::TABLE_SIZE;
 use crate::table::table;
 use crate::text::field;
 use crate::text::head;
@@ -23,9 +24,9 @@ use ticket::UnitNo;
 pub(crate) fn answer(s: &[u8], out: &mut [u8], wrote: usize) -> usize {
     let x = stepped(
         table(s),
-        byte(s, 689),
-        CoreNo(half(s, 690)),
-        UnitNo(half(s, 692)),
+        byte(s, TABLE_SIZE),
+        CoreNo(half(s, TABLE_SIZE + 1)),
+        UnitNo(half(s, TABLE_SIZE + 3)),
     );
     let a = x.answer;
     let to = head(out, wrote, b"M", parts::number(a) as u32);

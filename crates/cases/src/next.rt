@@ -11,7 +11,7 @@ ghost use Prim.Native.Nat.{_<_};
 
 // The next in line at a place: ticket, core, valid, held.
 pub(crate) fn next(s: &[u8], at: usize) -> Next
-    requires { ⌜ at < 2048 ⌝ }
+    requires { ⌜ at < 32768 ⌝ }
 {
     let valid = byte(s, at + 4) != 0;
     let held = byte(s, at + 5) != 0;

@@ -19,6 +19,27 @@ use ticket::CoreNo;
 use ticket::Ticket;
 use ticket::UnitNo;
 ghost use Prim.Native.Nat.{_<_};
+ghost use Rattle.parts.specs.Parts.{cores};
+
+// A case's bytes before its cores: the letter, the counts and the counter.
+const HEAD: usize = 9;
+
+// A core's bytes, a register's, and a unit's: its registers and its next in line.
+const CORE: usize = 9;
+
+const REGISTER: usize = 4;
+
+const UNIT: usize = REGISTER * CORES + 6;
+
+// Where the units of a table stand, and where those of an image to be written stand.
+const TABLE_UNITS: usize = HEAD + CORE * CORES;
+
+pub(crate) const IMAGE_UNITS: usize = HEAD;
+
+// The bytes of a case that is a table, and of one that is an image to be written.
+pub(crate) const TABLE_SIZE: usize = TABLE_UNITS + UNIT * UNITS;
+
+pub(crate) const IMAGE_SIZE: usize = IMAGE_UNITS + UNIT * UNITS;
 
 pub(crate) fn answer(s: &[u8], out: &mut [u8], wrote: usize) -> usize {
     let t = table(s);
@@ -28,7 +49,7 @@ pub(crate) fn answer(s: &[u8], out: &mut [u8], wrote: usize) -> usize {
 // The table, which stands first in a case.
 pub(crate) fn table(s: &[u8]) -> Table {
     Table {
-        units: units(s, 81),
+        units: units(s, TABLE_UNITS),
         cores: cores(s),
         counts: counts(s),
         counter: Ticket(half(s, 7)),
@@ -55,11 +76,11 @@ fn cores(s: &[u8]) -> [Core; CORES] {
     cs
 }
 
-// Core k: its nine bytes stand after the counts and the counter.
+// Core k, of those that stand after the counts and the counter.
 fn core(s: &[u8], k: usize) -> Core
-    requires { ⌜ k < 8 ⌝ }
+    requires { ⌜ k < cores ⌝ }
 {
-    let at = 9 + 9 * k;
+    let at = HEAD + CORE * k;
     Core {
         own: Ticket(half(s, at)),
         carried: Ticket(half(s, at + 2)),
@@ -92,36 +113,36 @@ fn state(n: u16) -> State {
 
 // Sixteen units from a place on.
 pub(crate) fn units(s: &[u8], from: usize) -> [LockUnit; UNITS]
-    requires { ⌜ from < 128 ⌝ }
+    requires { ⌜ from < 4096 ⌝ }
 {
     let x = unit(s, 0);
     let mut xs = [x; UNITS];
     let mut u = 0;
     while u < UNITS {
-        xs[u] = unit(s, from + 38 * u);
+        xs[u] = unit(s, from + UNIT * u);
         u += 1;
     }
     xs
 }
 
-// The unit at a place: eight registers, and after them the next in line.
+// The unit at a place: its registers, and after them the next in line.
 fn unit(s: &[u8], at: usize) -> LockUnit
-    requires { ⌜ at < 1024 ⌝ }
+    requires { ⌜ at < 16384 ⌝ }
 {
     let mut x = registers(s, at);
-    let n = next(s, at + 32);
+    let n = next(s, at + REGISTER * CORES);
     x.next = n;
     x
 }
 
-// A unit with the eight registers at a place.
+// A unit with the registers at a place.
 fn registers(s: &[u8], at: usize) -> LockUnit
-    requires { ⌜ at < 1024 ⌝ }
+    requires { ⌜ at < 16384 ⌝ }
 {
     let mut x = empty_unit();
     let mut k = 0;
     while k < CORES as u16 {
-        let r = register(s, at + 4 * k as usize);
+        let r = register(s, at + REGISTER * k as usize);
         x = registered(x, CoreNo(k), r);
         k += 1;
     }

@@ -3,6 +3,7 @@
 use libc::STDERR_FILENO;
 use libc::STDIN_FILENO;
 use libc::STDOUT_FILENO;
+use parts::CORES;
 use pieces::fronted;
 use pieces::keep;
 use stops::Run;
@@ -148,14 +149,18 @@ fn reason(why: Stop, text: Text) {
     match why {
         Stop::Finished => say(b"finished\n"),
         Stop::Unsound => say(b"the table is not sound (16)\n"),
-        Stop::BadHeader => say(
-            b"not a header T with 1 to 8 cores, 1 to 8 and 0 to 8 units, and a counter (20)\n",
-        ),
+        Stop::BadHeader => bad_header(),
         Stop::Malformed => malformed(text),
         Stop::Unfinished => of_text(text, b" ends before the line does (22)\n"),
         Stop::NoRoom => say(b"no room for the answer (23)\n"),
         Stop::TooMany => say(b"a line after 1000000 steps (24)\n"),
     }
+}
+
+fn bad_header() {
+    say(b"not a header T with 1 to ");
+    say_number(CORES as u64);
+    say(b" cores, 1 to 8 and 0 to 8 units, and a counter (20)\n");
 }
 
 fn malformed(text: Text) {

@@ -1,6 +1,6 @@
 -- How long an expected line is with its end: each field is bounded by its greatest number, and the sums are those of the definitions.
 -- The bound is reached.
-use Prim.Native.Nat.{ℕ, _≤_, _<_}
+use Prim.Native.Nat.{ℕ, _-_, _≤_, _<_}
 use mathlib.Core.Logic.{_⊎_, inl, inr}
 use mathlib.Core.Path.{_≡_, refl}
 use native.Mathlib.Omega.{arith}
@@ -9,7 +9,7 @@ use Rattle.ticket.specs.Kinds.{ticket, grant}
 use Rattle.ticket.specs.declared.kinds.Ticket.{Ticket}
 use Rattle.parts.specs.Answer.{numberOf}
 use Rattle.parts.specs.Range.{perClass}
-use Rattle.parts.specs.Parts.{cores, units}
+use Rattle.parts.specs.Parts.{cores, units, coreNo, unitNo}
 use Rattle.parts.specs.declared.answer.Answer.{Answer}
 use Rattle.parts.specs.declared.answer.Answer.the-variants.{Done, Granted, NotYet, NoCore, NoUnit, WrongState, WrongClass, Masked, Stretched, Unsound, OutOfRange}
 use Rattle.parts.specs.declared.answer.Grants.{Grants}
@@ -37,7 +37,7 @@ number-two Stretched = decimal-two 15 (omega arith)
 number-two Unsound = decimal-two 16 (omega arith)
 number-two OutOfRange = decimal-two 20 (omega arith)
 
-grants-most : (g : Grants) → Placed g → length (grantsBytes g) ≤ 11
+grants-most : (g : Grants) → Placed g → length (grantsBytes g) ≤ 13
 grants-most None h = omega (arith, decimal-one 0 (omega arith))
 grants-most (One g) h =
     simp length-append
@@ -45,7 +45,7 @@ grants-most (One g) h =
       arith,
       decimal-one 1 (omega arith),
       decimal-two (g .unit .0) (omega arith),
-      decimal-one (g .core .0) (omega arith),
+      decimal-two (g .core .0) (omega arith),
     ))
 grants-most (Two g h) l =
     simp length-append
@@ -53,9 +53,9 @@ grants-most (Two g h) l =
       arith,
       decimal-one 2 (omega arith),
       decimal-one (g .unit .0) (omega arith),
-      decimal-one (g .core .0) (omega arith),
+      decimal-two (g .core .0) (omega arith),
       decimal-two (h .unit .0) (omega arith),
-      decimal-one (h .core .0) (omega arith),
+      decimal-two (h .core .0) (omega arith),
     ))
 
 -- and whatever the numbers are, each has at most ten digits
@@ -99,11 +99,11 @@ expected-most i a n g hi hn placed (inr e) =
       grants-most g placed,
     ))
 
--- the bound is reached
+-- the bound is reached, by two cores with numbers of two digits
 pub expected-reached :
     length
-    (expectedBytes 1000000 Done (ticket 65535)
-    (Two (grant (record { 0 = 7 }) (record { 0 = 6 })) (grant (record { 0 = 15 }) (record { 0 = 7 }))))
+    (expectedBytes 1000000 Done (ticket numberMost)
+    (Two (grant (unitNo (perClass - 1)) (coreNo 10)) (grant (unitNo (units - 1)) (coreNo 11))))
     ≡ expectedMost
 unfolding digits
 expected-reached = refl

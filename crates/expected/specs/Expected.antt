@@ -1,5 +1,5 @@
 -- Expected lines as they are written. "Each step gives: step number from 1, answer, ticket, number of grants, then unit and core of
--- each grant by rising unit." "A line has at most 27 bytes."
+-- each grant by rising unit." "An expected line may reach 29 bytes."
 use Prim.Native.Nat.{ℕ}
 use mathlib.Core.List.{List, [], _∷_, _++_}
 use Rattle.ticket.specs.declared.kinds.Grant.{Grant}
@@ -14,7 +14,7 @@ use Rattle.digits.specs.Text.{tabbed}
 
 -- the longest expected line, with its end
 abbrev pub expectedMost : ℕ
-expectedMost = 27
+expectedMost = 29
 
 abbrev pub grantBytes : Grant → List ℕ
 grantBytes g = tabbed (g .unit .0) ++ tabbed (g .core .0)

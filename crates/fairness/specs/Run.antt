@@ -53,7 +53,7 @@ afterAll p steps = lastPlace onward p steps
 abbrev pub start : Counts → Ticket → Place
 start c n = record { table = fresh c n; issued = 0; issue = λ (j : ℕ). 0 }
 
--- "Cores 1 to 8. First-class units 1 to 8; second-class units 0 to 8. The counter starts anywhere from 0 to 65,535."
+-- "Demand 3 is proved once for any number of cores up to the limit." "The counter starts anywhere from 0 to 65,535."
 pub record Reached (p : Place) : Type 0 where
   pub counts : Counts
   pub counter : Ticket

@@ -1,13 +1,15 @@
-// Every step letter in every state of a core, allowed and refused; document 01's run; the refusals
-// 15, 16 and 20. Writes for each step its answer, ticket, number of grants, and unit and core of each
+// Every step letter in every state of a core, allowed and refused; document 01's run; the last cores of
+// the largest table; the refusals 15, 16 and 20. Writes for each step its answer, ticket, number of grants, and unit and core of each
 // grant, parted by tabs.
 //
 // The stored output is what second/grid.py prints: a model written from documents 01 and 02 alone.
 use block::Stepped;
 use block::Table;
 use libc::STDOUT_FILENO;
+use parts::CORES;
 use parts::Counts;
 use parts::Grants;
+use parts::PER_CLASS;
 use parts::Register;
 use parts::Step;
 use parts::next_in_line;
@@ -16,6 +18,7 @@ use ticket::CoreNo;
 use ticket::Grant;
 use ticket::Ticket;
 use ticket::UnitNo;
+ghost use Prim.Native.Nat.{_≤_};
 
 fn main() {
     tries(begin());
@@ -30,6 +33,7 @@ fn main() {
     tries(holding_both());
     tries(away());
     document_run();
+    last_cores();
     stretched(32767);
     stretched(32768);
     unsound();
@@ -166,6 +170,48 @@ fn document_run() {
     release(t, CoreNo(1));
 }
 
+// The core so many before the one past the last that a table can have.
+fn core_before(n: u16) -> CoreNo
+    requires { ⌜ n ≤ 2 ⌝ }
+{
+    CoreNo(CORES as u16 - n)
+}
+
+// The last cores and units of the largest table: the last core holds one and waits at the other, which core 9 holds.
+fn last_cores_met() -> Table {
+    let last = core_before(1);
+    let other = core_before(2);
+    let t = build(CORES as u16, PER_CLASS as u16, PER_CLASS as u16, 65534);
+    let t = request(t, last, UnitNo(7));
+    let t = request(t, CoreNo(9), UnitNo(15));
+    let t = request(t, other, UnitNo(7));
+    let t = poll(t, last);
+    let t = nest(t, last, UnitNo(15));
+    let t = request(t, CoreNo(10), UnitNo(15));
+    let t = poll(t, last);
+    let t = interrupt(t, other);
+    poll(t, CoreNo(9))
+}
+
+// The two units go round, two of them with one release; and the core past the last.
+fn last_cores() {
+    let last = core_before(1);
+    let other = core_before(2);
+    let past = core_before(0);
+    let t = last_cores_met();
+    let t = come_back(t, other);
+    let t = request(t, past, UnitNo(0));
+    let t = poll(t, past);
+    let t = release(t, CoreNo(9));
+    let t = poll(t, last);
+    let t = release(t, last);
+    let t = poll(t, CoreNo(10));
+    let t = poll(t, other);
+    let t = interrupt(t, CoreNo(10));
+    let t = come_back(t, CoreNo(10));
+    release(t, other);
+}
+
 // A request with ticket 0 live and this counter.
 fn stretched(counter: u16) {
     let s = build(3, 2, 2, 0).step(Step::R(CoreNo(0), UnitNo(0)));
@@ -216,13 +262,16 @@ fn next_in(table: Table, ticket: u16, core: u16, valid: bool, held: bool) -> Tab
 
 // Counts at and past the ends of their ranges.
 fn ranges() {
+    let cores = CORES as u16;
+    let units = PER_CLASS as u16;
     range(1, 1, 0);
-    range(8, 8, 8);
+    range(cores, units, units);
     range(0, 1, 0);
     range(9, 1, 0);
+    range(cores + 1, 1, 0);
     range(1, 0, 0);
-    range(1, 9, 0);
-    range(1, 1, 9);
+    range(1, units + 1, 0);
+    range(1, 1, units + 1);
 }
 
 fn range(cores: u16, first: u16, second: u16) {

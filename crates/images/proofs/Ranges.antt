@@ -15,6 +15,13 @@ use Rattle.parts.proofs.Bools.{and-left, and-right}
 use Rattle.parts.proofs.Ranging.{cores-few}
 use Rattle.images.specs.Image.{perUnit, unitCount, wordCount}
 
+-- how many words the largest table has; and how many bytes a unit: four for each register, eight for the next in line
+abbrev pub wordsMost : ℕ
+wordsMost = units * (cores + 1)
+
+abbrev pub unitBytes : ℕ
+unitBytes = 4 * cores + 8
+
 module _ (c : Counts) (e : inRange c ≡ true) where
   pub units-few : unitCount c ≤ units
   units-few =
@@ -25,17 +32,17 @@ module _ (c : Counts) (e : inRange c ≡ true) where
       let second = leb-true (c .second) perClass (and-right (a && b) d e) in
       omega arith
 
-  pub few-words : wordCount c ≤ 144
+  pub few-words : wordCount c ≤ wordsMost
   few-words =
       let l = cores-few c e in
-      mul-le-mul {n₂ = 16} {m₂ = 9} units-few (omega arith)
+      mul-le-mul {n₂ = units} {m₂ = cores + 1} units-few (omega arith)
 
   -- a unit within the counts has its place in the array, and its offset fits
   module _ (u all : ℕ) (is : all ≡ unitCount c) (h : u < all) where
     pub unit-room : u < units
     unit-room = omega (arith, units-few)
 
-    pub unit-offset : Fits w64 (u * 40)
+    pub unit-offset : Fits w64 (u * unitBytes)
     unit-offset = omega (arith, unit-room)
 
 -- what is divided by

@@ -2,7 +2,7 @@
 -- a single answer, one that returns the table untouched, and one that works the first step and invents the rest.
 use Prim.Native.Nat.{ℕ, _+_, _≤_}
 use mathlib.Core.Bool.{true, false, _&&_}
-use mathlib.Core.List.{[], _∷_}
+use mathlib.Core.List.{List, [], _∷_}
 use mathlib.Core.Path.{_≡_, refl, _∙_, ap}
 use native.Mathlib.Omega.{arith}
 use lib.Dec.{leb}
@@ -15,10 +15,8 @@ use Rattle.parts.specs.Range.{inRange, perClass}
 use Rattle.building.specs.Build.{fresh}
 use Rattle.parts.specs.Answer.{numberOf}
 use Rattle.parts.specs.Fold.{upTo}
-use Rattle.soundness.specs.Agreement.{unitSound}
-use Rattle.soundness.specs.Sound.{coreSound}
+use Rattle.plan.specs.Plan.{planStep}
 use Rattle.block.specs.Table.{coreOf}
-use Rattle.block.specs.Sound.{sound}
 use Rattle.refusals.specs.Judge.{noCore, noUnit, old, stretched}
 use Rattle.block.specs.Steps.{onSound, step, performed, verdict}
 use Rattle.block.specs.Over.{over}
@@ -35,6 +33,7 @@ use Rattle.parts.proofs.Ranging.{cores-few}
 use Rattle.laws.proofs.Settling.{settle-same}
 use Rattle.laws.proofs.Granting.{accepted}
 use Rattle.laws.proofs.Keeping.{core-fresh, fresh-sound}
+use Rattle.laws.proofs.Planned.{fine-fresh, shown-planned}
 
 -- a good header has a core and a first-class unit
 some-core : (c : Counts) → inRange c ≡ true → (1 ≤ c .cores) × (1 ≤ c .first)
@@ -95,9 +94,12 @@ module _ (c : Counts) (n : Ticket) (good : inRange c ≡ true) where
   not-untouched = ap (λ (x : Stepped). x .table .counter) request ∙ settle-same _ .2
 
 -- the run of document 01, every step of it
-pub not-inventing :
-    shown (fresh (record { cores = 3; first = 1; second = 1 }) (ticket 65535))
-    (R (coreNo 0) (unitNo 1) ∷
+abbrev few : Counts
+few = record { cores = 3; first = 1; second = 1 }
+
+abbrev run : List Step
+run =
+    R (coreNo 0) (unitNo 1) ∷
     P (coreNo 0) ∷
     R (coreNo 2) (unitNo 0) ∷
     R (coreNo 1) (unitNo 0) ∷
@@ -110,7 +112,10 @@ pub not-inventing :
     L (coreNo 0) ∷
     P (coreNo 1) ∷
     L (coreNo 1) ∷
-    []) ≡
+    []
+
+pub not-inventing :
+    shown (fresh few (ticket 65535)) run ≡
     (0 ∷ 65535 ∷ 1 ∷ 0 ∷ []) ∷
     (1 ∷ 65535 ∷ []) ∷
     (0 ∷ 0 ∷ 0 ∷ 2 ∷ []) ∷
@@ -125,5 +130,5 @@ pub not-inventing :
     (1 ∷ 0 ∷ []) ∷
     (0 ∷ 1 ∷ 0 ∷ 2 ∷ []) ∷
     []
-unfolding behind compare after upTo coreSound unitSound sound onSound step over
-not-inventing = refl
+unfolding behind compare after upTo planStep over
+not-inventing = shown-planned (fresh few (ticket 65535)) run (fine-fresh few (ticket 65535) refl) ∙ refl

@@ -1,6 +1,6 @@
--- "A reader goes over the lent script bytes and knows its place. It gives 21 if the next 14 bytes hold no line end, or the bytes up to
--- it aren't a step line; 22 if fewer than 14 bytes remain and none is a line end. After the header, nothing left means finished." "A
--- place past the end of the script counts as its end."
+-- "A reader goes over the lent script bytes and knows its place. It gives 21 if the next `lineMost` bytes hold no line end, or the bytes
+-- up to it aren't a step line; 22 if fewer remain and none is a line end. After the header, nothing left means finished." "A place past
+-- the end of the script counts as its end."
 use Prim.Native.Nat.{ℕ, zero, suc, _+_, _-_}
 use mathlib.Core.Bool.{cond}
 use mathlib.Core.List.{List, [], _∷_}
@@ -32,7 +32,7 @@ abbrev pub lineEnd : List ℕ → ℕ → Ending
 lineEnd s at = ending lineMost at (drop at s)
 
 -- what stands at a place: the bytes up to the line's end as `read` reads them, with the place after it; `none` where nothing is left, `bad`
--- where the next 14 bytes hold no line end, and `cut` where fewer remain and none is one
+-- where the next `lineMost` bytes hold no line end, and `cut` where fewer remain and none is one
 abbrev pub lineAt : {A : Type 0} → A → A → A → (List ℕ → ℕ → A) → List ℕ → ℕ → A
 lineAt none bad cut read s at =
     cond (leb (length s) at) none

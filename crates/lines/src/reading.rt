@@ -11,7 +11,7 @@ ghost use Rattle.lines.specs.ShortLine.{digit, shortLine};
 ghost use Rattle.lines.specs.Reading.{ending, lineEnd, oneNumber, twoNumbers, afterCore, afterLetter, parseStep, stepLine, readStep, stepLineNumber, stepNumber};
 
 // The longest script line, with its end.
-pub const LINE_MOST: usize = 14;
+pub const LINE_MOST: usize = 15;
 
 // Where a line ends: the place of its end; or not within the longest line; or not yet.
 pub enum Ending {

@@ -17,7 +17,7 @@ use Rattle.parts.specs.declared.kinds.Fill.the-variants.{Blank}
 
 -- the greatest number of cores, and of units
 abbrev pub cores : ℕ
-cores = 8
+cores = 32
 
 abbrev pub units : ℕ
 units = 16

@@ -1,4 +1,4 @@
--- "Cores 1 to 8. First-class units 1 to 8; second-class units 0 to 8."
+-- "A new part has 32 cores. .. 20 now starts at 33 cores." "First-class units 1 to 8; second-class units 0 to 8."
 use Prim.Native.Nat.{ℕ}
 use mathlib.Core.Bool.{Bool, _&&_}
 use lib.Dec.{leb}

@@ -7,7 +7,7 @@ use ticket::Ticket;
 use ticket::UnitNo;
 
 // The greatest number of cores, of units of one class, and of units.
-pub const CORES: usize = 8;
+pub const CORES: usize = 32;
 
 pub const PER_CLASS: usize = 8;
 

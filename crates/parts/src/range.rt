@@ -5,7 +5,7 @@ use crate::kinds::PER_CLASS;
 ghost use mathlib.Core.Path.{_≡_};
 ghost use Rattle.parts.specs.Range.{inRange};
 
-// Whether counts are in range: 1 to 8 cores, 1 to 8 first-class units, 0 to 8 second-class units.
+// Whether counts are in range: a core at least, a first-class unit at least, and none of the three above its limit.
 pub fn in_range(c: Counts) -> bool
     ensures { λ r. ⌜ r ≡ inRange c ⌝ }
 {

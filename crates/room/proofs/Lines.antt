@@ -1,4 +1,4 @@
--- A line has at most 27 bytes, and what a program holds stays so. The tickets of an allowed step are the counter, the core's own or
+-- A line is no longer than the longest, and what a program holds stays so. The tickets of an allowed step are the counter, the core's own or
 -- carried one, or what a register shows, and a sound table's registers show its cores' tickets; its grants are of its units and cores.
 use Prim.Native.Nat.{ℕ, zero, suc, _≤_, _<_}
 use mathlib.Core.Bool.{Bool, true, false, cond, _&&_}

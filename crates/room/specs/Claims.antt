@@ -1,4 +1,4 @@
--- "A line has at most 27 bytes", and the room for a script, told before it is translated.
+-- "An expected line may reach 29 bytes", and the room for a script, told before it is translated.
 use Prim.Native.Nat.{ℕ, _+_, _*_, _≤_, _<_}
 use mathlib.Core.Bool.{true}
 use mathlib.Core.List.{List}
@@ -29,7 +29,7 @@ pub record Held (t : Table) : Type 0 where
   pub own : (k : ℕ) → coreOf t k .own .0 < circle
   pub carried : (k : ℕ) → coreOf t k .carried .0 < circle
 
--- "a line has at most 27 bytes": the line of any step of any sound table, with any number that a step can have
+-- "an expected line may reach 29 bytes": the line of any step of any sound table, with any number that a step can have
 abbrev pub LineMost : Type 0
 LineMost =
     (t : Table) (x : Step) (i : ℕ) →

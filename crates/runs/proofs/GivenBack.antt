@@ -4,24 +4,26 @@
 -- would have left it, and the unit would have gone to core 1, as it does where core 1 does not poll in between.
 use Prim.Native.Nat.{ℕ}
 use mathlib.Core.Bool.{true}
-use mathlib.Core.List.{List, [], _∷_}
-use mathlib.Core.Path.{_≡_, refl}
+use mathlib.Core.List.{List, [], _∷_, _++_}
+use mathlib.Core.Path.{_≡_, refl, sym, _∙_, ap, subst}
 use Rattle.ticket.specs.Kinds.{ticket}
 use Rattle.ticket.specs.Order.{behind, compare, after}
 use Rattle.ticket.specs.declared.order.Comparison.the-variants.{Older}
 use Rattle.parts.specs.Fold.{upTo}
 use Rattle.parts.specs.Parts.{coreNo, unitNo}
 use Rattle.parts.specs.Answer.{numberOf}
-use Rattle.soundness.specs.Agreement.{unitSound}
-use Rattle.soundness.specs.Sound.{coreSound}
 use Rattle.block.specs.Table.{coreOf, registerOf}
-use Rattle.block.specs.Sound.{sound}
-use Rattle.block.specs.Steps.{onSound, step}
+use Rattle.plan.specs.Plan.{planStep}
+use Rattle.block.specs.Steps.{step}
 use Rattle.block.specs.Over.{over}
 use Rattle.parts.specs.declared.answer.Step.{Step}
 use Rattle.parts.specs.declared.answer.Step.the-variants.{R, N, P, I, C, L}
 use Rattle.fairness.specs.Run.{Place, onward, afterAll, start}
+use Rattle.block.specs.declared.stepped.Stepped.{Stepped}
+use Rattle.laws.specs.Granting.{listed}
+use Rattle.laws.proofs.Planned.{planned, fine-fresh}
 use Rattle.fairness.specs.Stretch.{grants, gives}
+use Rattle.runs.proofs.Planned.{Good, planAll, plans, all-planned, all-good}
 
 abbrev fresh : Place
 fresh = start (record { cores = 4; first = 2; second = 2 }) (ticket 100)
@@ -51,18 +53,48 @@ gone = onward lent (I (coreNo 0))
 abbrev back : Place
 back = onward gone (P (coreNo 1))
 
+-- the places by the plans
+fresh-good : Good fresh
+fresh-good = fine-fresh (record { cores = 4; first = 2; second = 2 }) (ticket 100) refl
+
+-- after the steps that lead to a place
+abbrev by : List Step → Place
+by steps = planAll fresh steps
+
+by-is : (steps : List Step) → afterAll fresh steps ≡ by steps
+by-is steps = all-planned fresh steps fresh-good
+
+by-good : (steps : List Step) → Good (by steps)
+by-good steps = all-good fresh steps fresh-good
+
+-- what a step gives there
+by-gives : (steps : List Step) (s : Step) → step (afterAll fresh steps .table) s ≡ planned (by steps .table) s
+by-gives steps s = ap (λ (x : Place). step (x .table) s) (by-is steps) ∙ plans (by steps) s (by-good steps)
+
+abbrev to-lent : List Step
+to-lent = before ++ (P (coreNo 1) ∷ [])
+
+abbrev to-gone : List Step
+to-gone = to-lent ++ (I (coreNo 0) ∷ [])
+
+abbrev to-back : List Step
+to-back = to-gone ++ (P (coreNo 1) ∷ [])
+
 -- the ticket that core 1 carries, and what its register at unit 3 shows
 abbrev Carries : Place → ℕ → Type 0
 Carries p n = (coreOf (p .table) 1 .carried .0 ≡ n) × (registerOf (p .table) 3 1 .ticket .0 ≡ n)
 
+carries-by : (steps : List Step) (n : ℕ) → Carries (by steps) n → Carries (afterAll fresh steps) n
+carries-by steps n h = subst (λ (x : Place). Carries x n) (sym (by-is steps)) h
+
 pub inherited : Carries lent 100
-unfolding behind compare after upTo coreSound unitSound sound onSound step over
-inherited = (refl, refl)
+unfolding behind compare after upTo planStep over
+inherited = carries-by to-lent 100 (refl, refl)
 
 -- between polls the old carried ticket stands
 pub stands-meanwhile : Carries gone 100
-unfolding behind compare after upTo coreSound unitSound sound onSound step over
-stands-meanwhile = (refl, refl)
+unfolding behind compare after upTo planStep over
+stands-meanwhile = carries-by to-gone 100 (refl, refl)
 
 -- the poll is answered 2 and reports 103, which it carries from then on, though what it carried is older
 pub given-back :
@@ -70,10 +102,19 @@ pub given-back :
     (step (gone .table) (P (coreNo 1)) .ticket .0 ≡ 103) ×
     Carries back 103 ×
     (compare 100 103 ≡ Older)
-unfolding behind compare after upTo coreSound unitSound sound onSound step over
-given-back = (refl, refl, (refl, refl), refl)
+unfolding behind compare after upTo planStep over
+given-back =
+    let is = by-gives to-gone (P (coreNo 1)) in (
+      ap (λ (x : Stepped). numberOf (x .answer)) is,
+      ap (λ (x : Stepped). x .ticket .0) is,
+      carries-by to-back 103 (refl, refl),
+      refl,
+    )
 
 -- so the unit goes to core 3, with ticket 102; with 100 still carried it goes to core 1
 pub better-claim : (gives 3 3 (grants back (L (coreNo 2))) ≡ true) × (gives 3 1 (grants gone (L (coreNo 2))) ≡ true)
-unfolding behind compare after upTo coreSound unitSound sound onSound step over gives
-better-claim = (refl, refl)
+unfolding behind compare after upTo planStep over gives
+better-claim = (
+  ap (λ (x : Stepped). gives 3 3 (listed (x .grants))) (by-gives to-back (L (coreNo 2))),
+  ap (λ (x : Stepped). gives 3 1 (listed (x .grants))) (by-gives to-gone (L (coreNo 2))),
+)

@@ -4,41 +4,68 @@
 use Prim.Native.Nat.{ℕ, _+_, _≤_, _<_}
 use mathlib.Core.Bool.{Bool, true, false, _&&_, not}
 use mathlib.Core.List.{List, [], _∷_, _++_}
-use mathlib.Core.Path.{_≡_, refl}
+use mathlib.Core.Logic.{⊎-elim}
+use mathlib.Core.Path.{_≡_, refl, _∙_, ap}
 use native.Mathlib.Omega.{arith}
+use lib.Dec.{ltb}
+use borrow.Author.Tests.{ltb-true}
 use Rattle.ticket.specs.Kinds.{ticket}
 use Rattle.ticket.specs.Order.{behind, compare, after}
 use Rattle.ticket.specs.declared.order.Comparison.the-variants.{Older}
 use Rattle.parts.specs.Fold.{upTo, every}
 use Rattle.parts.specs.State.{isIdle, stands, holds}
-use Rattle.parts.specs.Parts.{cores, coreNo, unitNo}
+use Rattle.parts.specs.Parts.{coreNo, unitNo}
 use Rattle.block.specs.Table.{coreOf}
 use Rattle.parts.specs.Answer.{numberOf}
-use Rattle.soundness.specs.Agreement.{unitSound}
-use Rattle.soundness.specs.Sound.{coreSound}
-use Rattle.block.specs.Sound.{sound}
-use Rattle.block.specs.Steps.{onSound, step}
+use Rattle.block.specs.Steps.{step}
 use Rattle.block.specs.Over.{over}
+use Rattle.parts.specs.declared.kinds.Counts.{Counts}
 use Rattle.parts.specs.declared.kinds.State.{State}
 use Rattle.parts.specs.declared.kinds.State.the-variants.{Idle, Waiting, Holding, WaitingSecond, HoldingBoth, Away}
 use Rattle.parts.specs.declared.answer.Step.{Step}
 use Rattle.parts.specs.declared.answer.Step.the-variants.{R, P, I, C, L}
-use Rattle.parts.proofs.Bools.{clash, not-true-false}
+use Rattle.parts.proofs.Bools.{or-cases, clash, not-true-false}
 use Rattle.parts.proofs.Folds.{every-at}
 use Rattle.fairness.specs.Run.{Place, Reached, onward, afterAll, start}
 use Rattle.fairness.specs.Stretch.{grants, gives, grantsOf, enters, leaves, stretch, earlier, passed, interruptions}
 use Rattle.fairness.proofs.Invariant.{live-small, numbered}
+use Rattle.ticket.specs.declared.kinds.Grant.{Grant}
+use Rattle.plan.specs.Plan.{planStep}
+use Rattle.block.specs.declared.stepped.Stepped.{Stepped}
+use Rattle.laws.proofs.Planned.{fine-fresh}
+use Rattle.runs.proofs.Planned.{
+  Good,
+  planOn,
+  planAll,
+  planGrants,
+  planLeaves,
+  planStretch,
+  plans,
+  grants-planned,
+  enters-planned,
+  leaves-planned,
+  onward-planned,
+  gathered,
+  all-planned,
+  all-good,
+  stretch-planned,
+  passed-planned,
+  interruptions-planned,
+}
 
 abbrev r : ℕ → Step
 r k = R (coreNo k) (unitNo 0)
 
+abbrev few : Counts
+few = record { cores = 4; first = 1; second = 0 }
+
 abbrev fresh : Place
-fresh = start (record { cores = 4; first = 1; second = 0 }) (ticket 65531)
+fresh = start few (ticket 65531)
 
 reaches : (steps : List Step) → Reached (afterAll fresh steps)
 reaches steps =
     record {
-      counts = record { cores = 4; first = 1; second = 0 };
+      counts = few;
       counter = ticket 65531;
       steps = steps;
       good = refl;
@@ -71,6 +98,28 @@ back = C (coreNo 2)
 abbrev e : Place
 e = onward p back
 
+-- the same places by the plans
+abbrev p′ : Place
+p′ = planAll fresh before
+
+abbrev e′ : Place
+e′ = planOn p′ back
+
+fresh-good : Good fresh
+fresh-good = fine-fresh few (ticket 65531) refl
+
+p-good : Good p′
+p-good = all-good fresh before fresh-good
+
+p-is : p ≡ p′
+p-is = all-planned fresh before fresh-good
+
+e-good : Good e′
+e-good = onward-planned p′ back p-good .1
+
+e-is : e ≡ e′
+e-is = ap (λ (x : Place). onward x back) p-is ∙ onward-planned p′ back p-good .0
+
 abbrev meanwhile : List Step
 meanwhile =
     L (coreNo 3) ∷
@@ -86,28 +135,58 @@ meanwhile =
 abbrev q : Place
 q = afterAll e meanwhile
 
+-- after steps that follow e
+abbrev later : List Step → Place
+later steps = planAll e′ steps
+
+later-good : (steps : List Step) → Good (later steps)
+later-good steps = all-good e′ steps e-good
+
+later-is : (steps : List Step) → afterAll e steps ≡ later steps
+later-is steps = ap (λ (x : Place). afterAll x steps) e-is ∙ all-planned e′ steps e-good
+
+-- whom a step gives unit 0, after steps that follow e
+later-gives : (steps : List Step) (s : Step) (k : ℕ) → gives 0 k (grants (afterAll e steps) s) ≡ gives 0 k (planGrants (later steps) s)
+later-gives steps s k =
+    ap (λ (x : Place). gives 0 k (grants x s)) (later-is steps) ∙ ap (gives 0 k) (grants-planned (later steps) s (later-good steps))
+
+-- whether core 2 leaves then, and the place after the step
+later-leaves : (steps : List Step) (s : Step) → leaves 2 0 (afterAll e steps) s ≡ planLeaves 2 0 (later steps) s
+later-leaves steps s =
+    ap (λ (x : Place). leaves 2 0 x s) (later-is steps) ∙ leaves-planned 2 0 (later steps) s (later-good steps)
+
+later-on : (steps : List Step) (s : Step) → onward (afterAll e steps) s ≡ planOn (later steps) s
+later-on steps s = ap (λ (x : Place). onward x s) (later-is steps) ∙ onward-planned (later steps) s (later-good steps) .0
+
+stays-planned : (steps : List Step) → stretch 2 0 e steps ≡ planStretch 2 0 e′ steps
+stays-planned steps = ap (λ (x : Place). stretch 2 0 x steps) e-is ∙ stretch-planned 2 0 e′ steps e-good
+
 pub entered : enters p back 2 0 ≡ true
-unfolding behind compare after upTo coreSound unitSound sound onSound step over gives
-entered = refl
+unfolding behind compare after upTo planStep over gives
+entered = ap (λ (x : Place). enters x back 2 0) p-is ∙ enters-planned p′ back 2 0 p-good
 
 pub stays : stretch 2 0 e meanwhile ≡ true
-unfolding behind compare after upTo coreSound unitSound sound onSound step over gives
-stays = refl
+unfolding behind compare after upTo planStep over gives
+stays = stays-planned meanwhile
 
 -- the counter wraps meanwhile
 pub wraps : (e .table .counter .0 ≡ 65535) × (q .table .counter .0 ≡ 1)
-unfolding behind compare after upTo coreSound unitSound sound onSound step over
-wraps = (refl, refl)
+unfolding behind compare after upTo planStep over
+wraps = (ap (λ (x : Place). x .table .counter .0) e-is, ap (λ (x : Place). x .table .counter .0) (later-is meanwhile))
 
 -- passed as often as the bound allows: two tickets and one interrupt
 pub exactly : (passed 0 e meanwhile ≡ 3) × (earlier e 2 ≡ 2) × (interruptions e 2 e meanwhile ≡ 1)
-unfolding behind compare after upTo coreSound unitSound sound onSound step over gives grantsOf
-exactly = (refl, refl, refl)
+unfolding behind compare after upTo planStep over gives grantsOf
+exactly = (
+  ap (λ (x : Place). passed 0 x meanwhile) e-is ∙ passed-planned 0 e′ meanwhile e-good,
+  ap (λ (x : Place). earlier x 2) e-is,
+  ap (λ (x : Place). interruptions x 2 x meanwhile) e-is ∙ interruptions-planned e′ 2 e′ meanwhile e-good,
+)
 
 -- and then granted
 pub at-last : gives 0 2 (grants q (L (coreNo 0))) ≡ true
-unfolding behind compare after upTo coreSound unitSound sound onSound step over gives
-at-last = refl
+unfolding behind compare after upTo planStep over gives
+at-last = later-gives meanwhile (L (coreNo 0)) 2
 
 -- core 1's new ticket is 0, and that of core 2 reads older
 pub across :
@@ -115,8 +194,14 @@ pub across :
     (compare (coreOf (q .table) 2 .own .0) (coreOf (q .table) 1 .own .0) ≡ Older) ×
     (q .issue 2 ≡ 2) ×
     (q .issue 1 ≡ 5)
-unfolding behind compare after upTo coreSound unitSound sound onSound step over
-across = (refl, refl, refl, refl)
+unfolding behind compare after upTo planStep over
+across =
+    let is = later-is meanwhile in (
+      ap (λ (x : Place). coreOf (x .table) 1 .own .0) is,
+      ap (λ (x : Place). compare (coreOf (x .table) 2 .own .0) (coreOf (x .table) 1 .own .0)) is,
+      ap (λ (x : Place). x .issue 2) is,
+      ap (λ (x : Place). x .issue 1) is,
+    )
 
 -- The bound less one, and the bound without the interrupts, are false.
 
@@ -153,8 +238,14 @@ pub next-before :
     (gives 0 1 (grants (afterAll e some) (I (coreNo 0))) ≡ true) ×
     (onward (afterAll e some) (I (coreNo 0)) .issue 1 ≡ 1) ×
     (e .issue 2 ≡ 2)
-unfolding behind compare after upTo coreSound unitSound sound onSound step over gives
-next-before = (refl, refl, refl, refl, refl)
+unfolding behind compare after upTo planStep over gives
+next-before = (
+  stays-planned some,
+  later-leaves some (I (coreNo 0)),
+  later-gives some (I (coreNo 0)) 1,
+  ap (λ (x : Place). x .issue 1) (later-on some (I (coreNo 0))),
+  ap (λ (x : Place). x .issue 2) e-is,
+)
 
 pub not-by-two :
     ((p : Place) (s : Step) (k u : ℕ) (more : List Step) (z : Step) (j : ℕ) →
@@ -177,10 +268,19 @@ asked = afterAll fresh (r 0 ∷ [])
 
 pub unpolled :
     (stands (coreOf (asked .table) 0 .state) ≡ true) ×
-    (every (λ (j : ℕ). not (holds (coreOf (asked .table) j .state))) cores ≡ true) ×
+    (asked .table .counts .cores ≡ few .cores) ×
+    (every (λ (j : ℕ). not (holds (coreOf (asked .table) j .state))) (few .cores) ≡ true) ×
     (numberOf (step (asked .table) (P (coreNo 0)) .answer) ≡ 1)
-unfolding behind compare after upTo coreSound unitSound sound onSound step over
-unpolled = (refl, refl, refl)
+unfolding behind compare after upTo planStep over
+unpolled =
+    let steps = r 0 ∷ [] in
+    let is = all-planned fresh steps fresh-good in (
+      ap (λ (x : Place). stands (coreOf (x .table) 0 .state)) is,
+      ap (λ (x : Place). x .table .counts .cores) is,
+      ap (λ (x : Place). every (λ (j : ℕ). not (holds (coreOf (x .table) j .state))) (few .cores)) is,
+      ap (λ (x : Place). numberOf (step (x .table) (P (coreNo 0)) .answer)) is ∙
+          ap (λ (x : Stepped). numberOf (x .answer)) (plans (planAll fresh steps) (P (coreNo 0)) (all-good fresh steps fresh-good)),
+    )
 
 holds-live : (z : State) → holds z ≡ true → isIdle z ≡ false
 holds-live Idle h = absurd (clash h refl)
@@ -201,35 +301,61 @@ not-holding-only claim =
     let x = claim asked 0 a (unpolled .0) in
     let j = x .0 in
     let z = coreOf (asked .table) j .state in
-    let small = live-small (asked .table) (numbered asked a .1 .good .shaped) j (holds-live z (x .1)) in
-    clash (x .1)
-    (not-true-false (holds z) (every-at (λ (j : ℕ). not (holds (coreOf (asked .table) j .state))) cores (unpolled .1) j small))
+    let live = holds-live z (x .1) in
+    let good = numbered asked a .1 .good in
+    ⊎-elim
+    (λ small.
+    let low = ltb-true j (asked .table .counts .cores) small in
+    let free = every-at (λ (j : ℕ). not (holds (coreOf (asked .table) j .state))) (few .cores) (unpolled .2) j (omega (arith, unpolled .1)) in
+    clash (x .1) (not-true-false (holds z) free))
+    (λ idle. clash idle live)
+    (or-cases (ltb j (asked .table .counts .cores)) (isIdle z) (good .sound .core j (live-small (asked .table) (good .shaped) j live) .within))
 
 -- The second run: core 2 is interrupted, which ends the stretch. It must: the next grant is of a later ticket.
 
 abbrev called : Step
 called = I (coreNo 2)
 
+abbrev broken : List Step
+broken = meanwhile ++ (called ∷ [])
+
 pub interrupted :
     (leaves 2 0 q called ≡ true) ×
-    (stretch 2 0 e (meanwhile ++ (called ∷ [])) ≡ false) ×
+    (stretch 2 0 e broken ≡ false) ×
     (gives 0 3 (grants (onward q called) (L (coreNo 0))) ≡ true) ×
     (onward (onward q called) (L (coreNo 0)) .issue 3 ≡ 4)
-unfolding behind compare after upTo coreSound unitSound sound onSound step over gives
-interrupted = (refl, refl, refl, refl)
+unfolding behind compare after upTo planStep over gives
+interrupted = (
+  later-leaves meanwhile called,
+  stays-planned broken,
+  later-gives broken (L (coreNo 0)) 3,
+  ap (λ (x : Place). x .issue 3) (later-on broken (L (coreNo 0))),
+)
 
 -- a stretch that goes on over an interrupt
-unfoldable pub ungranted : ℕ → ℕ → Place → List Step → Bool
-ungranted k u p [] = true
-ungranted k u p (s ∷ more) = not (gives u k (grants p s)) && ungranted k u (onward p s) more
+abbrev pub ungranted : ℕ → ℕ → Place → List Step → Bool
+ungranted k u p steps = over onward (λ q. true) (λ q s more. not (gives u k (grants q s)) && more) p steps
+
+ungranted-planned :
+    (k u : ℕ) (p : Place) (steps : List Step) →
+    Good p →
+    ungranted k u p steps ≡ over planOn (λ q. true) (λ q s more. not (gives u k (planGrants q s)) && more) p steps
+ungranted-planned k u p steps good =
+    gathered (λ q. true) (λ q s more. not (gives u k (grants q s)) && more) (λ q s more. not (gives u k (planGrants q s)) && more)
+    (λ q s more g. ap (λ (gs : List Grant). not (gives u k gs) && more) (grants-planned q s g)) p steps good
 
 still-ungranted :
-    (ungranted 2 0 e (meanwhile ++ (called ∷ [])) ≡ true) ×
-    (gives 0 2 (grants (afterAll e (meanwhile ++ (called ∷ []))) (L (coreNo 0))) ≡ false) ×
-    (gives 0 3 (grants (afterAll e (meanwhile ++ (called ∷ []))) (L (coreNo 0))) ≡ true) ×
-    (onward (afterAll e (meanwhile ++ (called ∷ []))) (L (coreNo 0)) .issue 3 ≡ 4)
-unfolding behind compare after upTo coreSound unitSound sound onSound step over gives ungranted
-still-ungranted = (refl, refl, refl, refl)
+    (ungranted 2 0 e broken ≡ true) ×
+    (gives 0 2 (grants (afterAll e broken) (L (coreNo 0))) ≡ false) ×
+    (gives 0 3 (grants (afterAll e broken) (L (coreNo 0))) ≡ true) ×
+    (onward (afterAll e broken) (L (coreNo 0)) .issue 3 ≡ 4)
+unfolding behind compare after upTo planStep over gives
+still-ungranted = (
+  ap (λ (x : Place). ungranted 2 0 x broken) e-is ∙ ungranted-planned 2 0 e′ broken e-good,
+  later-gives broken (L (coreNo 0)) 2,
+  later-gives broken (L (coreNo 0)) 3,
+  ap (λ (x : Place). x .issue 3) (later-on broken (L (coreNo 0))),
+)
 
 pub not-kept-open :
     ((p : Place) (s : Step) (k u : ℕ) (more : List Step) (z : Step) (j : ℕ) →
@@ -242,5 +368,5 @@ pub not-kept-open :
     ⊥
 not-kept-open claim =
     let f = still-ungranted in
-    let x = claim p back 2 0 (meanwhile ++ (called ∷ [])) (L (coreNo 0)) 3 (reaches before) entered (f .0) (f .1) (f .2) in
+    let x = claim p back 2 0 broken (L (coreNo 0)) 3 (reaches before) entered (f .0) (f .1) (f .2) in
     omega (arith, f .3, next-before .4)

@@ -23,7 +23,7 @@ fn main() {
 }
 
 // A turn reads, works a line, or is the last. A script of which every line is worked has at most
-// 1,000,001 lines of 14 bytes, so the turns are never used up.
+// 1,000,001 lines of so many bytes as the longest, so the turns are never used up.
 fn every_turn(input: &mut [u8], output: &mut [u8]) {
     let mut now = begun();
     let mut turns = u64::MAX;

@@ -5,4 +5,5 @@ pub mod GoesOn
 pub mod Front
 pub mod Chains
 pub mod Pieces
+pub mod Same
 pub mod Laws

@@ -1,5 +1,5 @@
 -- How long a script line and the output's first line are with their end: each field is bounded by its greatest number, and the sums
--- are those of the definitions. Each bound is reached.
+-- are those of the definitions. A header reaches the bound; a step line has a byte less.
 use Prim.Native.Nat.{ℕ, _≤_}
 use mathlib.Core.Bool.{true, _&&_}
 use mathlib.Core.Path.{_≡_, refl}
@@ -19,7 +19,7 @@ use Rattle.parts.specs.declared.answer.Step.the-variants.{R, N, P, I, C, L}
 use Rattle.lines.specs.Bytes.{lineMost, letterT}
 use Rattle.lines.proofs.Letters.{letterR, letterN, letterP, letterI, letterC, letterL}
 use Rattle.numbers.specs.Number.{digits, numberMost}
-use Rattle.digits.proofs.Lengths.{decimal-one, decimal-five}
+use Rattle.digits.proofs.Lengths.{decimal-one, decimal-two, decimal-five}
 use Rattle.writing.specs.Writing.{lettered, lettered2, numbersOf, stepBytes, headerBytes}
 use Rattle.writing.specs.Claims.{Small}
 
@@ -52,17 +52,13 @@ header-most letter c n fine h =
     simp length-append
     (omega (
       arith,
-      decimal-one (c .cores) (omega arith),
+      decimal-two (c .cores) (omega arith),
       decimal-one (c .first) (omega arith),
       decimal-one (c .second) (omega arith),
       decimal-five (n .0) h,
     ))
 
--- each bound is reached
-pub step-reached : length (stepBytes (R (record { 0 = 65535 }) (record { 0 = 65535 }))) ≡ lineMost
-unfolding digits
-step-reached = refl
-
-pub header-reached : length (headerBytes letterT (record { cores = 8; first = 8; second = 8 }) (ticket 65535)) ≡ lineMost
+-- the bound is reached
+pub header-reached : length (headerBytes letterT (record { cores = cores; first = perClass; second = perClass }) (ticket numberMost)) ≡ lineMost
 unfolding digits
 header-reached = refl

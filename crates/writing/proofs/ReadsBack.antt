@@ -1,5 +1,5 @@
 -- Reading gives back what was written, in the middle of any other bytes. What is written holds no line end before its last byte and
--- is at most 14 bytes long, so the reader finds that end, and the bytes up to it are parsed number by number.
+-- is no longer than the longest line, so the reader finds that end, and the bytes up to it are parsed number by number.
 use Prim.Native.Nat.{ℕ, zero, suc, _+_, _-_, _≤_, _<_}
 use mathlib.Core.Bool.{true, false, _&&_}
 use mathlib.Core.List.{List, [], _∷_, _++_, append-assoc, append-nil}
@@ -157,7 +157,7 @@ read-step-written (L k) h pre post = one-written pre post letterL (k .0) (L k) (
 
 -- The header
 
--- counts in range have one digit each
+-- counts in range have two digits and one each
 counts-few : (c : Counts) → inRange c ≡ true → (c .cores ≤ cores) × (c .first ≤ perClass) × (c .second ≤ perClass)
 counts-few c good =
     let a = leb 1 (c .cores) in
@@ -171,7 +171,10 @@ counts-few c good =
       leb-true (c .second) perClass (and-right (a && b && d && f) g good),
     )
 
-one-digit : (m : ℕ) → m ≤ 8 → length (decimal m) ≤ 1
+two-digits : (m : ℕ) → m ≤ cores → length (decimal m) ≤ 2
+two-digits m h = digits-most 10 1 m (omega arith)
+
+one-digit : (m : ℕ) → m ≤ perClass → length (decimal m) ≤ 1
 one-digit m h = digits-most 10 0 m (omega arith)
 
 module _ (c : Counts) (n : Ticket) where
@@ -201,7 +204,7 @@ module _ (c : Counts) (n : Ticket) where
     header-few : length header < lineMost
     header-few =
         let w = counts-few c good in
-        let k = one-digit (c .cores) (w .0) in
+        let k = two-digits (c .cores) (w .0) in
         let l = one-digit (c .first) (w .1) in
         let m = one-digit (c .second) (w .2) in
         let o = decimal-length (n .0) most in

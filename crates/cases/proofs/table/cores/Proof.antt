@@ -1,6 +1,7 @@
 -- `cases::table::cores` is safe and ends: the cores that are left fall.
 use Prim.Native.Nat.{_-_}
 use borrow.Author.Needs.{needs}
+use Rattle.parts.specs.Parts.{cores}
 use Rattle.cases.proofs.table.cores.Statement.{statement}
 use Rattle.cases.proofs.table.cores.Tie as tie
 
@@ -8,7 +9,7 @@ abbrev Inv-loop : tie.InvT-loop
 Inv-loop s cs₀ k₀ cs k = Unit {0}
 
 abbrev μ-loop : tie.MeasureT-loop
-μ-loop s cs₀ k₀ cs k = 8 - k
+μ-loop s cs₀ k₀ cs k = cores - k
 
 core-requires : tie.Need-core-requires Inv-loop μ-loop
 core-requires c κs = search needs

@@ -1,6 +1,7 @@
 -- `cases::table::registers` is safe and ends: the registers that are left fall.
 use Prim.Native.Nat.{_-_}
 use borrow.Author.Needs.{needs}
+use Rattle.parts.specs.Parts.{cores}
 use Rattle.cases.proofs.table.registers.Statement.{statement}
 use Rattle.cases.proofs.table.registers.Tie as tie
 
@@ -8,7 +9,7 @@ abbrev Inv-loop : tie.InvT-loop
 Inv-loop s at x₀ k₀ x k = Unit {0}
 
 abbrev μ-loop : tie.MeasureT-loop
-μ-loop s at x₀ k₀ x k = 8 - k
+μ-loop s at x₀ k₀ x k = cores - k
 
 empty-unit-requires : tie.Need-empty-unit-requires Inv-loop μ-loop
 empty-unit-requires c κs = search needs

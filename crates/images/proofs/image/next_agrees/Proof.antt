@@ -14,14 +14,14 @@ use Rattle.parts.specs.declared.kinds.LockUnit.{LockUnit}
 use Rattle.parts.specs.declared.kinds.Register.{Register}
 use Rattle.words.specs.Word.{packable, wordOf}
 use Rattle.images.specs.Image.{perUnit, unitCount, waiter, wordAt, goodWords, entered, unitOf, nextAgrees}
-use Rattle.images.proofs.Ranges.{last-place, few-words, word-at}
+use Rattle.images.proofs.Ranges.{wordsMost, last-place, few-words, word-at}
 use Rattle.images.proofs.Good.{word-total, next-packable}
 use Rattle.images.proofs.image.next_agrees.Statement.{statement}
 use Rattle.images.proofs.image.next_agrees.Tie as tie
 
 module _ (c : Counts) (u m : ℕ) (is : m ≡ perUnit c) (h : u < unitCount c) where
   -- the last word of the unit is one of a few, and of those that there are
-  short : inRange c ≡ true → u * m + c .cores < 144
+  short : inRange c ≡ true → u * m + c .cores < wordsMost
   short e = omega (arith, word-at c u (c .cores) (last-place c) m is h, few-words c e)
 
   within : (ws : List ℕ) → goodWords c ws ≡ true → u * m + c .cores < length ws

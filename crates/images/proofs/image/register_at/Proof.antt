@@ -13,7 +13,7 @@ use Rattle.parts.specs.declared.kinds.Counts.{Counts}
 use Rattle.parts.specs.declared.kinds.LockUnit.{LockUnit}
 use Rattle.parts.specs.declared.kinds.Register.{Register}
 use Rattle.images.specs.Image.{perUnit, wordCount, unitIn, placed, registerAt}
-use Rattle.images.proofs.Ranges.{units-few, unit-in, place-in}
+use Rattle.images.proofs.Ranges.{unitBytes, units-few, unit-in, place-in}
 use Rattle.images.proofs.image.register_at.Statement.{statement}
 use Rattle.images.proofs.image.register_at.Tie as tie
 
@@ -24,7 +24,7 @@ module _ (c : Counts) (i m : ℕ) (is : m ≡ perUnit c) where
       (let l = unit-in c i h in let r = units-few c e in omega arith)
 
   -- its place in the array, in bytes
-  unit-offset : inRange c ≡ true → i < wordCount c → Fits w64 (i / m * 40)
+  unit-offset : inRange c ≡ true → i < wordCount c → Fits w64 (i / m * unitBytes)
   unit-offset e h = omega (arith, unit-room e h)
 
   place : i % m < perUnit c
