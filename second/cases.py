@@ -15,6 +15,7 @@ LOG = (
     "P 1 2 0 0; I 0 14 0 0; L 0 0 65535 1 1 1; P 1 1 0 0; L 1 0 1 1 0 2"
 )
 TWO = "T 3 1 1 5; R 0 0 0 5 1 0 0; P 0 1 5 0; N 0 1 0 5 1 1 0; P 0 1 5 0; R 1 0 0 6 0; R 2 1 0 7 0; L 0 0 5 2 0 1 1 2"
+CORES = 32
 cases, answers = [], []
 
 
@@ -51,15 +52,17 @@ def logs():
     log(text(LOG), "0 13")
     log(text(TWO), "0 7")
     log(b"T\t8\t8\t8\t65535\n", "0 0")
+    log(b"T\t32\t8\t8\t65535\n", "0 0")
     # refused steps agree like others
     log(text("T 1 1 0 7; P 0 12 0 0; R 1 0 10 0 0; N 0 65535 11 0 0; R 0 0 0 7 1 0 0"), "0 4")
-    # the header: 14 bytes are looked at, whatever comes after them
+    # the header: 15 bytes are looked at, whatever comes after them
     log(b"", "22 1")
-    log(b"T\t8\t8\t8\t65535", "22 1")
-    log(b"T\t8\t8\t8\t655350", "20 1")
-    log(b"T\t3\t1\t1\t0000001\n" + text("P 0 12 0 0"), "20 1")
+    log(b"T\t32\t8\t8\t65535", "22 1")
+    log(b"T\t32\t8\t8\t655350", "20 1")
+    log(b"T\t3\t1\t1\t00000001\n" + text("P 0 12 0 0"), "20 1")
     log(b"\n", "20 1")
-    log(text("T 9 1 1 0; P 0 12 0 0"), "20 1")
+    log(text("T 33 1 1 0; P 0 12 0 0"), "20 1")
+    log(text("T 32 1 1 0; P 31 12 0 0; P 32 10 0 0"), "0 2")
     log(text("T 3 1 1 0 0; P 0 12 0 0"), "20 1")
     log(text("E 3 1 1 0; P 0 12 0 0"), "20 1")
     log(text("P 0 12 0 0"), "20 1")
@@ -167,20 +170,20 @@ def next_of(line):
     return *(oldest or [(0, 0, 0)])[0], int(any(flag for _, _, flag in line))
 
 
-def units(shown, n=8):
+def units(shown, n=CORES):
     """Sixteen units: their registers, and the next in line of the first n of them where `shown` has no other for (unit, "next")."""
     for u in range(16):
-        line = [shown.get((u, k), (0, 0, 0)) for k in range(8)]
+        line = [shown.get((u, k), (0, 0, 0)) for k in range(CORES)]
         yield line, shown.get((u, "next"), next_of(line[:n]))
 
 
-def packed(shown, n=8):
+def packed(shown, n=CORES):
     return b"".join(b"".join(register(*r) for r in line) + struct.pack("<HHBB", *after) for line, after in units(shown, n))
 
 
 def whole(counts, counter, cores, shown):
     head = struct.pack("<4H", *counts, counter)
-    body = b"".join(struct.pack("<4HB", *cores.get(k, (0, 0, 0, 0, 0))) for k in range(8))
+    body = b"".join(struct.pack("<4HB", *cores.get(k, (0, 0, 0, 0, 0))) for k in range(CORES))
     return head + body + packed(shown)
 
 
@@ -194,7 +197,7 @@ def method(before, step, answer, after=None):
     number = "RNPICL".index(letter) if letter in "RNPICL" else int(letter)
     counts, counter, cores, shown = after or before
     fields = [*map(int, answer.split()), *counts, counter]
-    for k in range(8):
+    for k in range(CORES):
         fields += cores.get(k, (0, 0, 0, 0, 0))
     for line, after in units(shown):
         fields += [n for r in line for n in r] + [*after]
@@ -223,7 +226,7 @@ def line(letter, room, place, numbers, answer):
 
 
 script(text(RUN), text(COLUMNS))
-for room in (0, 13, 14, 15, len(text(COLUMNS)) - 1, len(text(COLUMNS)), 14 + 27 * 13):
+for room in (0, 13, 14, 15, len(text(COLUMNS)) - 1, len(text(COLUMNS)), 15 + 29 * 13):
     lent(room, text(RUN), 0, text(COLUMNS))
 lent(100, b"T\t3\t1\t9\t0\n", 20, b"")
 lent(100, b"T\t1\t1\t0\t0\nR\t0\t0\nQ\t0\n", 21, b"E\t1\t1\t0\t0\n1\t0\t0\t1\t0\t0\n")
@@ -235,7 +238,9 @@ script(b"T\t1\t1\t0\t0\nR\t0\t0\nQ\t0\n", b"E\t1\t1\t0\t0\n1\t0\t0\t1\t0\t0\nX\t
 script(b"T\t1\t1\t0\t0\nR\t0\t0\nP\t0", b"E\t1\t1\t0\t0\n1\t0\t0\t1\t0\t0\nX\t22\n")
 table((3, 1, 1), 65535, {}, {}, 1)
 table((3, 1, 1), 65535, {}, {(1, 2): (0, 0, 1)}, 0)
-table((9, 1, 1), 0, {}, {}, 0)
+table((9, 1, 1), 0, {}, {}, 1)
+table((32, 8, 8), 65535, {}, {}, 1)
+table((33, 1, 1), 0, {}, {}, 0)
 # core 0 holds unit 0 and waits at unit 1, which core 1 holds; core 2 away
 table((3, 1, 1), 8, {0: (5, 5, 0, 1, 3), 1: (6, 6, 1, 0, 2), 2: (7, 7, 0, 0, 5)}, {(0, 0): (5, 1, 1), (1, 0): (5, 1, 0), (1, 1): (6, 7, 2)}, 1)
 table((3, 1, 1), 8, {0: (5, 5, 0, 1, 4), 1: (6, 6, 1, 0, 2), 2: (7, 7, 0, 0, 5)}, {(0, 0): (5, 1, 1), (1, 0): (5, 1, 0), (1, 1): (6, 1, 1)}, 0)
@@ -296,6 +301,12 @@ for step, answer, counter, cores, shown in [
     then = ((3, 1, 1), counter, cores, shown)
     method(now, step, answer, then)
     now = then
+# the last core of the largest table: it takes over from core 9, by whose release its wait ends
+last = ((32, 8, 8), 9, {9: (7, 7, 15, 0, HOLDING), 31: (8, 8, 15, 0, WAITING)}, {(15, 9): (7, 1, 1), (15, 31): (8, 1, 0)})
+method(last, "L 9", "0 7 1 15 31", ((32, 8, 8), 9, {31: (8, 8, 15, 0, WAITING)}, {(15, 31): (8, 1, 1)}))
+method(last, "R 30 16", "11 0 0")
+method(last, "P 31", "2 8 0")
+method(last, "P 32", "10 0 0")
 fresh = ((1, 1, 0), 7, {}, {})
 method(fresh, "R 0 0", "0 7 1 0 0", ((1, 1, 0), 8, {0: (7, 7, 0, 0, WAITING)}, {(0, 0): (7, 1, 1)}))
 method(fresh, "P 0", "12 0 0")
@@ -320,7 +331,7 @@ then = ((2, 2, 0), 32768, {**live, 1: (32767, 32767, 1, 0, WAITING)}, {(0, 0): (
 method(((2, 2, 0), 32767, live, {(0, 0): (0, 1, 1)}), "R 1 1", "0 32767 1 1 1", then)
 # 16 before all others; the table's numbers come back as they were
 method(((3, 1, 1), 65535, {}, {(1, 2): (0, 0, 1)}), "R 0 0", "16 0 0")
-method(((9, 65535, 1), 12, {7: (1, 2, 3, 65535, AWAY)}, {(15, 7): (65535, 1, 1)}), "P 9", "16 0 0")
+method(((33, 65535, 1), 12, {31: (1, 2, 3, 65535, AWAY)}, {(15, 31): (65535, 1, 1)}), "P 9", "16 0 0")
 for step in ["R 0 0", "N 0 1", "P 1", "I 1", "C 1", "L 0", "P 9"]:
     for after in [(7, 2, 1, 1), (0, 0, 0, 1)]:
         method(((3, 1, 1), 8, HOLDS[0], {**HOLDS[1], (0, "next"): after}), step, "16 0 0")
@@ -370,11 +381,16 @@ for tickets, at in [((9, 9), None), ((0, 32768), None), ((0, 32767), 0), ((0, 32
     for next_word in [0, *words]:
         right = next_word == (0 if at is None else words[at])
         reading((len(words), 1, 0), [*words, next_word], b"\t".join(b"%d" % n for n in [0, *fields]) if right else b"30")
-eight = [(u, [65536 + 8 * u + k for k in range(8)]) for u in range(16)]
-answer = b"".join(b"".join(b"\t%d\t1\t0" % (8 * u + k) for k in range(8)) + b"\t%d\t0\t1\t0" % (8 * u) for u in range(16))
-reading((8, 8, 8), [w for u, line in eight for w in [*line, 65536 + 8 * u]], b"0" + answer)
-reading((8, 8, 8), [w for u, line in eight for w in line], b"30")
-reading((8, 8, 8), [0] * 200, b"30")
+# all units, of eight cores and of as many as a table can have, which wait with tickets that rise: the first is next
+for n in (8, CORES):
+    words = [[65536 + n * u + k for k in range(n)] for u in range(16)]
+    answer = b"".join(b"".join(b"\t%d\t1\t0" % (n * u + k) for k in range(n)) + b"\t%d\t0\t1\t0" % (n * u) for u in range(16))
+    reading((n, 8, 8), [w for line in words for w in [*line, line[0]]], b"0" + answer)
+    reading((n, 8, 8), [w for line in words for w in line], b"30")
+    answer = b"".join(b"\t%d" % w for line in words for w in [*line, line[0]])
+    writing((n, 8, 8), 16 * (n + 1), {(u, k): (n * u + k, 1, 0) for u in range(16) for k in range(n)}, b"0" + answer)
+reading((CORES, 8, 8), [0] * 600, b"30")
+reading((33, 8, 8), [0] * (16 * 34), b"20")
 d = {(0, 0): (5, 1, 0), (0, 1): (4, 1, 1), (1, 1): (4, 1, 0), (2, 0): (9, 0, 1)}
 writing((2, 1, 1), 6, d, b"0\t65541\t196612\t65541\t0\t65540\t65540")
 writing((2, 1, 1), 5, d, b"30")
@@ -393,23 +409,24 @@ writing((3, 1, 0), 4, {**circle, (0, "next"): (0, 0, 1, 0)}, b"30")
 writing((2, 1, 0), 3, circle, b"0\t65536\t87381\t65536")
 writing((2, 1, 0), 3, {(0, 0): (9, 1, 0), (0, 1): (9, 1, 0)}, b"0\t65545\t65545\t0")
 writing((2, 1, 0), 3, {(0, 0): (9, 1, 0), (0, 1): (9, 1, 0), (0, "next"): (9, 1, 1, 0)}, b"30")
-answer = b"".join(b"\t%d" % w for u, line in eight for w in [*line, 65536 + 8 * u])
-writing((8, 8, 8), 144, {(u, k): (8 * u + k, 1, 0) for u in range(16) for k in range(8)}, b"0" + answer)
+writing((33, 8, 8), 16 * 34, {}, b"20")
 for room, place, numbers, answer in [
     (14, 0, (8, 8, 8, 65535), "T 8 8 8 65535"),
     (13, 0, (8, 8, 8, 65535), 23),
-    (64, 50, (8, 8, 8, 65535), "T 8 8 8 65535"),
-    (64, 51, (8, 8, 8, 65535), 23),
+    (15, 0, (32, 8, 8, 65535), "T 32 8 8 65535"),
+    (14, 0, (32, 8, 8, 65535), 23),
+    (64, 49, (32, 8, 8, 65535), "T 32 8 8 65535"),
+    (64, 50, (32, 8, 8, 65535), 23),
     (20, 3, (1, 1, 0, 0), "T 1 1 0 0"),
     (10, 10, (1, 1, 0, 0), 23),
     (10, 65535, (1, 1, 0, 0), 23),
     (0, 0, (1, 1, 0, 0), 23),
     (14, 0, (0, 1, 0, 0), 20),
-    (14, 0, (9, 1, 0, 0), 20),
+    (14, 0, (33, 1, 0, 0), 20),
     (14, 0, (1, 0, 0, 0), 20),
     (14, 0, (1, 9, 0, 0), 20),
     (14, 0, (1, 1, 9, 0), 20),
-    (30, 0, (257, 1, 65535, 0), 20),
+    (30, 0, (288, 1, 65535, 0), 20),
     (3, 9, (1, 1, 9, 0), 20),
 ]:
     line(b"H", room, place, numbers, answer)
@@ -434,10 +451,10 @@ for room, place, numbers, answer in [
 for index, number in enumerate([0, 1, 2, 10, 11, 12, 13, 14, 15, 16, 20, 20]):
     line(b"E", 12, 1, (7, index, 0, 0, 1, 2, 3, 4), "7 %d 0 0" % number)
 for room, place, numbers, answer in [
-    (27, 0, (1000000, 0, 65535, 2, 7, 7, 15, 6), "1000000 0 65535 2 7 7 15 6"),
-    (26, 0, (1000000, 0, 65535, 2, 7, 7, 15, 6), 23),
-    (64, 37, (1000000, 0, 65535, 2, 7, 7, 15, 6), "1000000 0 65535 2 7 7 15 6"),
-    (64, 38, (1000000, 0, 65535, 2, 7, 7, 15, 6), 23),
+    (29, 0, (1000000, 0, 65535, 2, 7, 31, 15, 30), "1000000 0 65535 2 7 31 15 30"),
+    (28, 0, (1000000, 0, 65535, 2, 7, 31, 15, 30), 23),
+    (64, 35, (1000000, 0, 65535, 2, 7, 31, 15, 30), "1000000 0 65535 2 7 31 15 30"),
+    (64, 36, (1000000, 0, 65535, 2, 7, 31, 15, 30), 23),
     (16, 2, (9, 0, 10, 1, 8, 3, 15, 6), "9 0 10 1 8 3"),
     (14, 2, (9, 0, 10, 1, 8, 3, 15, 6), 23),
     (20, 2, (10, 1, 1, 255, 0, 1, 1, 2), "10 1 1 2 0 1 1 2"),

@@ -147,6 +147,11 @@ def main():
     for s in [("R", 0, 1), ("P", 0), ("R", 2, 0), ("R", 1, 0), ("I", 2), ("P", 1), ("N", 1, 1), ("C", 2), ("P", 1), ("I", 0), ("L", 0),
               ("P", 1), ("L", 1)]:
         print(line(*step(t, *s)))
+    # the last cores and units of the largest table, and the core past them
+    t = Table(32, 8, 8, 65534)
+    for s in [("R", 31, 7), ("R", 9, 15), ("R", 30, 7), ("P", 31), ("N", 31, 15), ("R", 10, 15), ("P", 31), ("I", 30), ("P", 9),
+              ("C", 30), ("R", 32, 0), ("P", 32), ("L", 9), ("P", 31), ("L", 31), ("P", 10), ("P", 30), ("I", 10), ("C", 10), ("L", 30)]:
+        print(line(*step(t, *s)))
     # ticket 0 live, and the counter 32,767 or 32,768
     for counter in 32767, 32768:
         t = Table(3, 2, 2, 0)
@@ -165,8 +170,8 @@ def main():
         for s in ("R", 0, 0), ("N", 0, 2), ("P", 0), ("I", 0), ("C", 0), ("L", 0):
             print(line(*step(copy.deepcopy(t), *s)))
     # counts at and past the ends of their ranges
-    for cores, first, second in (1, 1, 0), (8, 8, 8), (0, 1, 0), (9, 1, 0), (1, 0, 0), (1, 9, 0), (1, 1, 9):
-        print(0 if 1 <= cores <= 8 and 1 <= first <= 8 and second <= 8 else 20)
+    for cores, first, second in (1, 1, 0), (32, 8, 8), (0, 1, 0), (9, 1, 0), (33, 1, 0), (1, 0, 0), (1, 9, 0), (1, 1, 9):
+        print(0 if 1 <= cores <= 32 and 1 <= first <= 8 and second <= 8 else 20)
 
 
 if __name__ == "__main__":

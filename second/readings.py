@@ -15,10 +15,10 @@ HEADER = re.compile(rb"T\t%s\t%s\t%s\t%s\Z" % (NUMBER, NUMBER, NUMBER, NUMBER))
 
 def line_of(script):
     """The bytes of the first line and the place after it, or 21 or 22."""
-    end = script[:14].find(b"\n")
+    end = script[:15].find(b"\n")
     if end >= 0:
         return script[:end], end + 1
-    return (22 if len(script) < 14 else 21), None
+    return (22 if len(script) < 15 else 21), None
 
 
 def step(script):
@@ -46,7 +46,7 @@ def header(script):
     if not m:
         return "20"
     cores, first, second, counter = map(int, m.groups())
-    if not (1 <= cores <= 8 and 1 <= first <= 8 and second <= 8 and counter <= 65535):
+    if not (1 <= cores <= 32 and 1 <= first <= 8 and second <= 8 and counter <= 65535):
         return "20"
     return "\t".join(map(str, ["T", cores, first, second, counter, after]))
 
@@ -71,17 +71,20 @@ def cases():
         yield b"S", b"P\t3" + tail
         yield b"S", b"R\t3\t4" + tail
         yield b"H", b"T\t3\t1\t1\t65535" + tail
-    whole = b"R\t65535\t65535\n"
+    whole = b"T\t32\t8\t8\t65535\n"
     for n in range(len(whole) + 1):
-        yield b"S", whole[:n]
-        yield b"H", b"T\t8\t8\t8\t65535\n"[:n]
-    yield b"S", b"R\t65535\t655350\n"
-    yield b"S", b"R\t65535\t655351"
+        yield b"S", b"R\t65535\t65535\n"[:n]
+        yield b"H", whole[:n]
+    yield b"H", whole[:-1] + b"0"
+    yield b"H", whole[:-1] + b"0\n"
+    for number in b"655350", b"6553500":
+        yield b"S", b"R\t65535\t" + number
+        yield b"S", b"R\t65535\t" + number + b"\n"
     yield b"S", b"\n"
     yield b"S", b"\tP\t1\n"
     yield b"S", b"P\t\t1\n"
     yield b"H", b""
-    for cores in 0, 1, 8, 9:
+    for cores in 0, 1, 8, 9, 31, 32, 33:
         for first in 0, 1, 8, 9:
             for second in 0, 8, 9:
                 yield b"H", b"T\t%d\t%d\t%d\t7\n" % (cores, first, second)
@@ -91,9 +94,9 @@ def cases():
         yield b"H", bytes([letter]) + b"\t3\t1\t1\t0\n"
     alphabet = b"0123456789\t\nRNPICLT \xff"
     for _ in range(600):
-        yield b"SH"[rng.randrange(2):][:1], bytes(rng.choice(alphabet) for _ in range(rng.randrange(18)))
+        yield b"SH"[rng.randrange(2):][:1], bytes(rng.choice(alphabet) for _ in range(rng.randrange(19)))
     for _ in range(300):
-        line = bytearray(rng.choice([b"R\t1\t12\n", b"P\t7\n", b"N\t0\t15\n", b"T\t8\t8\t8\t65535\n", b"L\t65535\n"]))
+        line = bytearray(rng.choice([b"R\t1\t12\n", b"P\t7\n", b"N\t0\t15\n", b"T\t8\t8\t8\t65535\n", b"T\t32\t8\t8\t65535\n", b"L\t65535\n"]))
         line[rng.randrange(len(line))] = rng.choice(alphabet)
         yield b"SH"[line[0] == 84:][:1], bytes(line)
     for w in 0, 1, 5, 65535, 65536, 65537, 131071, 131072, 131073, 196607, 196608, 262143, 262144, 1 << 31, (1 << 32) - 1:

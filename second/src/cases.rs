@@ -6,7 +6,7 @@
 //!   call with that room (0 where the script is finished), and the bytes written.
 //! - `G`: u16 length, log. Answer: `G`, the number, and for 40 the line and the field,
 //!   for 20, 21, 22 and 24 the line, for 0 the number of steps that agree.
-//! - `S`: a table of 688 bytes (see `put_whole`). Answer: `S`, 1 if sound else 0.
+//! - `S`: a table of 2,440 bytes (see `put_whole`). Answer: `S`, 1 if sound else 0.
 //! - `M`: a table as in `S`, u8 letter (0 R, 1 N, 2 P, 3 I, 4 C, from 5 on L), u16
 //!   core, u16 unit. Answer: `M`, answer, ticket, number of grants, unit and core
 //!   of each, and every number of the next table in the order of `put_whole`.
@@ -15,7 +15,7 @@
 //! - `I`: u16 cores, first, second, n; n words. Answer: `I`, 20 or 30, or `I`, 0
 //!   and for each unit ticket, valid, flag of each register, and ticket, core,
 //!   valid, held of the next in line.
-//! - `O`: u16 cores, first, second, room; 16 units of 8 registers and the next in
+//! - `O`: u16 cores, first, second, room; 16 units of 32 registers and the next in
 //!   line. Answer: `O`, 20 or 30, or `O`, 0 and each word.
 //! - `H`, `L`, `E`: u16 bytes lent (at most 64, each `.`), u16 place, and the line
 //!   to write there. `H`: the header's four u16. `L`: the step as in `M`. `E`: u32
@@ -38,7 +38,7 @@ use crate::words;
 use crate::writers::Line;
 
 /// Most words of an image in a case.
-pub const WORDS_MAX: usize = 200;
+pub const WORDS_MAX: usize = 600;
 const UNITS: usize = MAX_UNITS * (MAX_CORES * 4 + 6);
 pub const TABLE: usize = 8 + MAX_CORES * 9 + UNITS;
 /// Most bytes lent in a case.
@@ -596,7 +596,7 @@ mod tests {
         put_read_image(&mut cases, [1, 1, 0], &[196_611, 0]);
         put_read_image(&mut cases, [1, 1, 1], &[65_537, 0]);
         put_read_image(&mut cases, [1, 1, 1], &[65_537, 0, 0, 0]);
-        put_read_image(&mut cases, [9, 1, 1], &[65_537]);
+        put_read_image(&mut cases, [33, 1, 1], &[65_537]);
         put_write_image(&mut cases, [2, 1, 1], 6, &table.unit);
         put_write_image(&mut cases, [2, 1, 1], 4, &table.unit);
         put_write_image(&mut cases, [2, 0, 1], 3, &table.unit);
@@ -629,33 +629,33 @@ mod tests {
              I\t30\nI\t30\nI\t20\nO\t0\t0\t0\t0\t0\t0\t0\nO\t30\nO\t20\nO\t30\n\
              O\t0\t0\t65539\t65539\nG\t0\t1\nG\t40\t2\t4\nG\t22\t3\nG\t20\t1\n"
         );
-        assert_eq!(TABLE, 688);
+        assert_eq!(TABLE, 2_440);
     }
 
-    /// A table's line has 8 x 5 numbers of cores and for each of 16 units 8 x 3 of
+    /// A table's line has 32 x 5 numbers of cores and for each of 16 units 32 x 3 of
     /// registers and 4 of the next in line.
     #[test]
     fn steps_by_methods() {
         let answered = |table: &Table, kind, core, unit| {
             let (mut case, mut out) = (Vec::new(), Vec::new());
             put_method(&mut case, table, Step { kind, core, unit });
-            assert_eq!(case.len(), 694);
+            assert_eq!(case.len(), 2_446);
             answer_to(&case, &mut out);
             String::from_utf8(out).unwrap()
         };
         let zeros = |count| "\t0".repeat(count);
         let table = Table::fresh(2, 1, 1, 5).unwrap();
         let mut expected = "M\t0\t5\t1\t1\t1\t2\t1\t1\t6".to_string();
-        expected += &(zeros(5) + "\t5\t5\t1\t0\t1" + &zeros(30));
-        expected += &(zeros(28 + 3) + "\t5\t1\t1" + &zeros(18) + "\t0\t0\t0\t1");
-        expected += &(zeros(14 * 28) + "\n");
+        expected += &(zeros(5) + "\t5\t5\t1\t0\t1" + &zeros(150));
+        expected += &(zeros(100 + 3) + "\t5\t1\t1" + &zeros(90) + "\t0\t0\t0\t1");
+        expected += &(zeros(14 * 100) + "\n");
         assert_eq!(answered(&table, Kind::Request, 1, 1), expected);
-        let expected = "M\t12\t0\t0\t2\t1\t1\t5".to_string() + &zeros(488) + "\n";
+        let expected = "M\t12\t0\t0\t2\t1\t1\t5".to_string() + &zeros(1_760) + "\n";
         assert_eq!(answered(&table, Kind::Leave, 0, 9), expected);
         let mut broken = table.clone();
         broken.core[1].second = 1;
         let mut expected = "M\t16\t0\t0\t2\t1\t1\t5".to_string();
-        expected += &(zeros(5) + "\t0\t0\t0\t1\t0" + &zeros(478) + "\n");
+        expected += &(zeros(5) + "\t0\t0\t0\t1\t0" + &zeros(1_750) + "\n");
         assert_eq!(answered(&broken, Kind::Poll, 9, 9), expected);
         let mut broken = table;
         broken.unit[15].next = Next {
@@ -665,7 +665,7 @@ mod tests {
             held: true,
         };
         let mut expected = "M\t16\t0\t0\t2\t1\t1\t5".to_string();
-        expected += &(zeros(484) + "\t1\t2\t1\t1\n");
+        expected += &(zeros(1_756) + "\t1\t2\t1\t1\n");
         assert_eq!(answered(&broken, Kind::Poll, 9, 9), expected);
     }
 }

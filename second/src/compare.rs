@@ -381,9 +381,12 @@ impl Tally {
     }
 }
 
+/// How many counts are in range: of cores, and of units of the two classes.
+const COUNTS: u64 = 32 * 8 * 9;
+
 /// The longest header and the longest line of a step, with their ends.
-const HEADER_MOST: usize = 14;
-const LINE_MOST: usize = 27;
+const HEADER_MOST: usize = 15;
+const LINE_MOST: usize = 29;
 
 /// Bytes to lend for a script with these answers: what is set aside for it, which
 /// has to be enough; just as many as they have, one less, or any number.
@@ -556,8 +559,8 @@ impl Comparison<'_> {
                     // Every second script takes the next of all possible counts.
                     let maker_rng = Rng::new(rng.draw(), 0);
                     let mut maker = if number % 2 == 0 {
-                        let n = (number / 2 % 576) as u16;
-                        let counts = [1 + n % 8, 1 + n / 8 % 8, n / 64];
+                        let n = (number / 2 % COUNTS) as u16;
+                        let counts = [1 + n % 32, 1 + n / 32 % 8, n / 256];
                         Maker::new(maker_rng, counts, edge_counter(&mut rng))
                     } else {
                         Maker::any(maker_rng)
@@ -613,7 +616,7 @@ impl Comparison<'_> {
                     *tally.kinds.entry(format!("{kind:?}")).or_default() += 1;
                     tally.damaged += 1;
                     tally.singles += 1;
-                    let piece = rng.pick(&[1, 5, 14, 100, 1_000, 1 << 16]);
+                    let piece = rng.pick(&[1, 5, 15, 100, 1_000, 1 << 16]);
                     self.one_script(batch, script, piece, tally)?;
                     if self.stop.load(Ordering::Relaxed) {
                         break;
@@ -1150,7 +1153,7 @@ pub fn compare(options: &Options) -> i32 {
         seen.two_grants,
     );
     println!(
-        "headers with different counts: {} of 576",
+        "headers with different counts: {} of {COUNTS}",
         tally.headers.len()
     );
     println!("damage: {}", listed(&tally.kinds, |kind| kind.clone()));

@@ -212,8 +212,8 @@ pub fn damage(rng: &mut Rng, kind: Kind, script: &mut Vec<u8>) {
         Kind::LongLine => {
             // Lengths on both sides of the longest line, with and without end.
             let length = match rng.below(3) {
-                0 => rng.within(11, 16),
-                1 => rng.within(13, 15),
+                0 => rng.within(11, 17),
+                1 => rng.within(13, 16),
                 _ => rng.within(1, 120),
             } as usize;
             let mut line = match rng.below(4) {
@@ -326,8 +326,9 @@ pub fn damage(rng: &mut Rng, kind: Kind, script: &mut Vec<u8>) {
                 let mut numbers = any_counts(rng);
                 for _ in 0..rng.within(1, 2) {
                     let at = rng.index(3);
-                    numbers[at] =
-                        rng.pick(&[0, 1, 8, 9, 10, 11, 16, 80, 88, 255, 256, 257, 65_535]);
+                    numbers[at] = rng.pick(&[
+                        0, 1, 8, 9, 10, 11, 16, 32, 33, 34, 80, 88, 255, 256, 257, 65_535,
+                    ]);
                 }
                 let mut line = Vec::new();
                 let counter = edge_counter(rng);

@@ -136,8 +136,15 @@ pub fn wrong(rng: &mut Rng, registers: &[Register], way: u64) -> Option<Next> {
             next.ticket = due.ticket.wrapping_add(rng.pick(&one_of));
         }
         "core" if due.valid => {
-            let past = rng.pick(&[8, 255, 256, 65_535]);
-            let other = rng.pick(&[due.core ^ 1, due.core ^ 2, due.core ^ 4, past]);
+            let past = rng.pick(&[32, 255, 256, 65_535]);
+            let other = rng.pick(&[
+                due.core ^ 1,
+                due.core ^ 2,
+                due.core ^ 4,
+                due.core ^ 8,
+                due.core ^ 16,
+                past,
+            ]);
             next.core = other;
         }
         "valid" => next.valid = !due.valid,
@@ -166,7 +173,7 @@ pub fn wrong(rng: &mut Rng, registers: &[Register], way: u64) -> Option<Next> {
         }
         "nobody's" if line.is_empty() => {
             next.ticket = rng.pick(&[1, 2, 256, 32_768, 65_535]);
-            next.core = rng.pick(&[0, 1, 7, 8, 65_535]);
+            next.core = rng.pick(&[0, 1, 7, 8, 31, 32, 65_535]);
             next.valid = rng.chance(70);
         }
         _ => return None,

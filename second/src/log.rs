@@ -332,14 +332,14 @@ mod tests {
     #[test]
     fn headers() {
         assert_eq!(check(b""), (22, 1, 0));
-        assert_eq!(check(b"T\t8\t8\t8\t65535"), (22, 1, 0));
-        // The header's window has 14 bytes.
-        assert_eq!(check(b"T\t8\t8\t8\t655350"), (20, 1, 0));
-        assert_eq!(check(b"0123456789012"), (22, 1, 0));
-        assert_eq!(check(b"01234567890123"), (20, 1, 0));
+        assert_eq!(check(b"T\t32\t8\t8\t65535"), (22, 1, 0));
+        // The header's window has 15 bytes.
+        assert_eq!(check(b"T\t32\t8\t8\t655350"), (20, 1, 0));
+        assert_eq!(check(b"01234567890123"), (22, 1, 0));
+        assert_eq!(check(b"012345678901234"), (20, 1, 0));
         for text in [
             "",
-            "T 9 1 0 0",
+            "T 33 1 0 0",
             "T 1 1 0 0 0",
             "E 1 1 0 0",
             "P 0 12 0 0",

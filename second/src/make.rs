@@ -58,6 +58,8 @@ struct Habits {
     nest: u64,
     /// Steps towards an inherited ticket, where one is in reach.
     aim: u64,
+    /// Turns of an idle core at which it stays idle.
+    rest: u64,
 }
 
 pub struct Maker {
@@ -82,17 +84,28 @@ pub fn edge_counter(rng: &mut Rng) -> u16 {
     }
 }
 
+/// Cores in range, from `least` on: up to eight mostly, and those that have two
+/// digits, the last of them often.
+fn any_cores(rng: &mut Rng, least: u64) -> u16 {
+    (match rng.below(10) {
+        0..=5 => rng.within(least, 8),
+        6 => rng.pick(&[9, 10, 11, 16, 31]),
+        7 => 32,
+        _ => rng.within(9, 32),
+    }) as u16
+}
+
 /// Counts in range, small ones often, so that cores meet.
 pub fn any_counts(rng: &mut Rng) -> [u16; 3] {
     if rng.chance(50) {
         [
-            rng.within(3, 8) as u16,
+            any_cores(rng, 3),
             rng.within(1, 2) as u16,
             rng.within(1, 2) as u16,
         ]
     } else {
         [
-            rng.within(1, 8) as u16,
+            any_cores(rng, 1),
             rng.within(1, 8) as u16,
             rng.within(0, 8) as u16,
         ]
@@ -108,6 +121,7 @@ impl Maker {
             crowd: rng.pick(&[0, 30, 60, 90]),
             nest: rng.pick(&[40, 80, 95]),
             aim: rng.pick(&[0, 30, 60]),
+            rest: 0,
         };
         Maker {
             rng,
@@ -134,7 +148,15 @@ impl Maker {
             crowd: 30,
             nest: 80,
             aim: 20,
+            rest: 0,
         };
+        self
+    }
+
+    /// Requests come seldom and for any unit, so that lines stay short.
+    pub fn few(mut self) -> Maker {
+        self.habits.crowd = 0;
+        self.habits.rest = 90;
         self
     }
 
@@ -353,7 +375,8 @@ impl Maker {
                 } else {
                     self.first_class_unit()
                 };
-                (Kind::Request, true)
+                let rest = self.habits.rest;
+                (Kind::Request, rest == 0 || !self.rng.chance(rest))
             }
             State::Waiting | State::WaitingSecond => {
                 let second = core.state == State::WaitingSecond;
@@ -390,12 +413,15 @@ impl Maker {
         let kind = self
             .rng
             .pick(&[Request, Nest, Poll, Interrupt, Continue, Leave]);
+        // With cores of two digits, also the last of those and the ones past it.
+        let mut far = vec![7, 8, 15, 16, 17, 255, 256, 32_767, 32_768, 65_534, 65_535];
+        if self.table.cores > 8 {
+            far.extend([31, 32, 33]);
+        }
         let mut number = |count: u16| match self.rng.below(12) {
             0 => count,
             1 => count + self.rng.below(3) as u16,
-            2 => self
-                .rng
-                .pick(&[7, 8, 15, 16, 17, 255, 256, 32_767, 32_768, 65_534, 65_535]),
+            2 => self.rng.pick(&far),
             3 if self.rng.chance(30) => self.rng.draw() as u16,
             _ => self.rng.below(count as u64) as u16,
         };

@@ -3,7 +3,7 @@
 use crate::table::{Kind, Outcome, Step, Table};
 
 /// No line is longer, its end counted.
-pub const LINE_MAX: usize = 14;
+pub const LINE_MAX: usize = 15;
 /// A line after this many steps is refused.
 pub const STEPS_MAX: u32 = 1_000_000;
 
@@ -220,7 +220,7 @@ mod tests {
                     core: 65535,
                     unit: 65535
                 },
-                LINE_MAX
+                14
             )
         );
         assert_eq!(
@@ -257,36 +257,51 @@ mod tests {
             "P\t0 \n",
             "P0\n",
             "P\t0x\n",
+            "P\t0000000000000",
             "P\t00000000000",
             "R\t65535\t65535",
             "R\t65535\t655350\n",
+            "R\t65535\t655350",
+            "R\t65535\t6553500",
+            "R\t65535\t6553500\n",
         ] {
-            let expected = if text.len() < 14 && !text.contains('\n') {
+            let expected = if text.len() < 15 && !text.contains('\n') {
                 Fault::Unfinished
             } else {
                 Fault::Malformed
             };
             assert_eq!(read_step(text.as_bytes()), Err(expected), "{text:?}");
         }
-        // Fewer than 14 bytes without an end may still become anything.
-        for text in ["", "R", "R\t65535\t65535", "Zzzz", "P\t0000000000"] {
-            assert!(text.len() < 14);
+        // Fewer than 15 bytes without an end may still become anything.
+        for text in [
+            "",
+            "R",
+            "R\t65535\t65535",
+            "R\t65535\t655350",
+            "Zzzz",
+            "P\t0000000000",
+        ] {
+            assert!(text.len() < 15);
             assert_eq!(
                 read_step(text.as_bytes()),
                 Err(Fault::Unfinished),
                 "{text:?}"
             );
         }
-        assert_eq!(read_step(b"Zzzzzzzzzzzzzz"), Err(Fault::Malformed));
+        assert_eq!(read_step(b"Zzzzzzzzzzzzzz"), Err(Fault::Unfinished));
+        assert_eq!(read_step(b"Zzzzzzzzzzzzzzz"), Err(Fault::Malformed));
     }
 
     #[test]
     fn header_lines() {
         for (text, good) in [
             ("T\t8\t8\t8\t65535\n", true),
+            ("T\t9\t1\t0\t0\n", true),
+            ("T\t32\t8\t8\t65535\n", true),
+            ("T\t33\t1\t0\t0\n", false),
+            ("T\t032\t1\t0\t0\n", false),
             ("T\t1\t1\t0\t0\n", true),
             ("T\t0\t1\t0\t0\n", false),
-            ("T\t9\t1\t0\t0\n", false),
             ("T\t1\t0\t0\t0\n", false),
             ("T\t1\t9\t0\t0\n", false),
             ("T\t1\t1\t9\t0\n", false),
@@ -303,11 +318,11 @@ mod tests {
         }
         assert!(matches!(read_header(b""), Err(Fault::Unfinished)));
         assert!(matches!(
-            read_header(b"T\t8\t8\t8\t65535"),
+            read_header(b"T\t32\t8\t8\t65535"),
             Err(Fault::Unfinished)
         ));
         assert!(matches!(
-            read_header(b"T\t8\t8\t8\t655350"),
+            read_header(b"T\t32\t8\t8\t655350"),
             Err(Fault::Malformed)
         ));
     }
@@ -315,17 +330,17 @@ mod tests {
     #[test]
     fn longest_lines() {
         let mut line = Vec::new();
-        put_header(&mut line, b'T', [8, 8, 8, 65535]);
+        put_header(&mut line, b'T', [32, 8, 8, 65535]);
         assert_eq!(line.len(), LINE_MAX);
         line.clear();
         let outcome = Outcome {
             answer: 0,
             ticket: 65535,
             granted: 2,
-            grants: [(7, 7), (15, 6)],
+            grants: [(7, 31), (15, 30)],
         };
         put_outcome(&mut line, STEPS_MAX, &outcome);
-        assert_eq!(line, b"1000000\t0\t65535\t2\t7\t7\t15\t6\n");
-        assert_eq!(line.len(), 27);
+        assert_eq!(line, b"1000000\t0\t65535\t2\t7\t31\t15\t30\n");
+        assert_eq!(line.len(), 29);
     }
 }

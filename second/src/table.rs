@@ -3,7 +3,7 @@
 
 use std::ops::{Index, IndexMut};
 
-pub const MAX_CORES: usize = 8;
+pub const MAX_CORES: usize = 32;
 pub const MAX_UNITS: usize = 16;
 
 #[derive(Clone, Copy, PartialEq, Eq, Debug, Default)]
@@ -210,7 +210,7 @@ pub fn older(a: u16, b: u16) -> bool {
 }
 
 pub fn counts_in_range(cores: u16, first_class: u16, second_class: u16) -> bool {
-    (1..=8).contains(&cores) && (1..=8).contains(&first_class) && second_class <= 8
+    (1..=32).contains(&cores) && (1..=8).contains(&first_class) && second_class <= 8
 }
 
 impl Table {

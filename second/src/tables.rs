@@ -308,7 +308,7 @@ fn break_aside(rng: &mut Rng, table: &mut Table, way: u64) -> Option<()> {
     match way {
         // Counts.
         0 => {
-            let number = rng.pick(&[0, 9, 10, 16, 255, 256, 257, 65_535]);
+            let number = rng.pick(&[0, 9, 10, 16, 33, 34, 255, 256, 257, 65_535]);
             match rng.below(3) {
                 0 => table.cores = number,
                 1 => table.first_class = number,
@@ -661,7 +661,7 @@ fn any_word(rng: &mut Rng) -> u32 {
 fn extent(rng: &mut Rng) -> ([u16; 3], u16) {
     let mut counts = any_counts(rng);
     if rng.chance(20) {
-        counts[rng.index(3)] = rng.pick(&[0, 0, 9, 9, 10, 16, 256, 32_768, 65_535]);
+        counts[rng.index(3)] = rng.pick(&[0, 0, 9, 9, 10, 16, 32, 33, 33, 34, 256, 32_768, 65_535]);
     }
     let [cores, first_class, second_class] = counts.map(u64::from);
     let registers = (first_class + second_class).saturating_mul(cores);
@@ -670,7 +670,7 @@ fn extent(rng: &mut Rng) -> ([u16; 3], u16) {
         0 => right + 1,
         1 => right.saturating_sub(1),
         2 => rng.below(cases::WORDS_MAX as u64 + 1),
-        3 => 144,
+        3 => 528,
         4 | 5 => registers,
         _ => right,
     };
@@ -729,7 +729,7 @@ fn any_units(rng: &mut Rng, counts: [u16; 3]) -> [Unit; MAX_UNITS] {
         if junk && inside == 0 {
             unit.next = Next {
                 ticket: rng.draw() as u16,
-                core: rng.below(9) as u16,
+                core: rng.below(33) as u16,
                 valid: rng.chance(50),
                 held: rng.chance(50),
             };
@@ -760,7 +760,7 @@ fn any_number(rng: &mut Rng, count: u16) -> u16 {
     match rng.below(16) {
         0 => count,
         1 => count.wrapping_add(rng.below(3) as u16),
-        2 => rng.pick(&[7, 8, 15, 16, 255, 256, 32_768, 65_535]),
+        2 => rng.pick(&[7, 8, 15, 16, 31, 32, 33, 255, 256, 32_768, 65_535]),
         3 if rng.chance(30) => rng.draw() as u16,
         _ => rng.below(count as u64) as u16,
     }

@@ -185,7 +185,14 @@ mod tests {
                 Ok(count)
             }
         }
-        for stop in ["", "Q", "Q\t0\n", "R\t1", "12345678901234"] {
+        for stop in [
+            "",
+            "Q",
+            "Q\t0\n",
+            "R\t1",
+            "12345678901234",
+            "123456789012345",
+        ] {
             let text = lines(RUN) + stop;
             let whole = columns(&text);
             for size in 1..20 {
@@ -200,9 +207,10 @@ mod tests {
     fn stops() {
         assert_eq!(columns(""), "X\t22\n");
         assert_eq!(columns("T\t1\t1\t0\t0"), "X\t22\n");
-        assert_eq!(columns("T\t9\t1\t0\t0\n"), "X\t20\n");
-        assert_eq!(columns("T\t8\t8\t8\t655350"), "X\t20\n");
-        assert_eq!(columns("T\t8\t8\t8\t65535"), "X\t22\n");
+        assert_eq!(columns("T\t9\t1\t0\t0\n"), "E\t9\t1\t0\t0\n");
+        assert_eq!(columns("T\t33\t1\t0\t0\n"), "X\t20\n");
+        assert_eq!(columns("T\t32\t8\t8\t655350"), "X\t20\n");
+        assert_eq!(columns("T\t32\t8\t8\t65535"), "X\t22\n");
         assert_eq!(columns("\n"), "X\t20\n");
         let head = "T\t1\t1\t0\t0\n";
         let expected = |more: &str| format!("E\t1\t1\t0\t0\n{more}");
@@ -215,11 +223,11 @@ mod tests {
         );
         assert_eq!(columns(&format!("{head}R\t0\t0\r\n")), expected("X\t21\n"));
         assert_eq!(
-            columns(&format!("{head}R\t0\t00000000")),
+            columns(&format!("{head}R\t0\t0000000000")),
             expected("X\t22\n")
         );
         assert_eq!(
-            columns(&format!("{head}R\t0\t0000000000")),
+            columns(&format!("{head}R\t0\t00000000000")),
             expected("X\t21\n")
         );
     }

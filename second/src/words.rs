@@ -315,7 +315,7 @@ mod tests {
             assert_eq!(write_image(2, 1, 2, &wrong, &mut room), Err(30));
         }
         assert_eq!(room, [7; 9]);
-        assert_eq!(write_image(9, 1, 2, &units, &mut room), Err(20));
+        assert_eq!(write_image(33, 1, 2, &units, &mut room), Err(20));
         assert_eq!(write_image(2, 1, 2, &units, &mut room[..8]), Err(30));
         assert_eq!(write_image(2, 1, 2, &units, &mut [7; 6]), Err(30));
     }

@@ -65,8 +65,10 @@ fn any_u32(rng: &mut Rng) -> u32 {
 /// Core or unit number: most are small.
 fn any_u16(rng: &mut Rng) -> u16 {
     match rng.below(4) {
-        0 => rng.below(16) as u16,
-        1 => rng.pick(&[0, 7, 8, 9, 10, 15, 16, 99, 100, 255, 256, 999, 1_000]),
+        0 => rng.below(33) as u16,
+        1 => rng.pick(&[
+            0, 7, 8, 9, 10, 15, 16, 31, 32, 99, 100, 255, 256, 999, 1_000,
+        ]),
         2 => rng.pick(&[9_999, 10_000, 32_767, 32_768, 65_534, 65_535]),
         _ => (rng.draw() >> rng.within(48, 63)) as u16,
     }
@@ -75,7 +77,9 @@ fn any_u16(rng: &mut Rng) -> u16 {
 fn any_header(rng: &mut Rng) -> [u16; 4] {
     let mut counts = any_counts(rng);
     if rng.chance(25) {
-        counts[rng.index(3)] = rng.pick(&[0, 0, 1, 8, 9, 9, 10, 264, 32_769, 65_535]);
+        counts[rng.index(3)] = rng.pick(&[
+            0, 0, 1, 8, 9, 9, 10, 32, 33, 33, 34, 264, 288, 32_769, 65_535,
+        ]);
     }
     let [cores, first, second] = counts;
     let counter = if rng.chance(50) {
@@ -153,7 +157,7 @@ mod tests {
 
         let header = |cores| Line::Header([cores, 8, 0, 10]);
         let mut lent = *b"..........";
-        assert_eq!(header(9).write(&mut lent, 60), Err(20));
+        assert_eq!(header(33).write(&mut lent, 60), Err(20));
         assert_eq!(header(8).write(&mut lent, 0), Err(23));
         assert_eq!(&lent, b"..........");
         let mut lent = *b"...........";

@@ -2,8 +2,9 @@
 //! starter, and prints one table. `bench/run` builds what this needs.
 //!
 //! Usage: bench STARTER OURS CHECKER SECOND COPY FOLDER REPETITIONS
-//! FOLDER has the scripts 0, 100000 and 1000000, named by their steps, and the log
-//! of the last.
+//! FOLDER has the scripts 0, 100000 and 1000000, named by their steps, the log of
+//! the last, and two scripts of 1,000,000 steps for 32 cores: few, in which few cores
+//! wait at a time, and many.
 
 use std::fs::{self, File};
 use std::io;
@@ -106,6 +107,9 @@ fn same(a: &Path, b: &Path) -> io::Result<bool> {
     Ok(status.success())
 }
 
+/// The scripts for 32 cores, by how many of them wait.
+const WAITING: [&str; 2] = ["few", "many"];
+
 fn bench(words: &[String]) -> io::Result<i32> {
     let [starter, ours, checker, second, copy, folder, repetitions] = words else {
         eprintln!("usage: bench STARTER OURS CHECKER SECOND COPY FOLDER REPETITIONS");
@@ -118,13 +122,14 @@ fn bench(words: &[String]) -> io::Result<i32> {
     let programs = [("ours", ours), ("second", second), ("copy", copy)];
 
     // The answers stand ready for the copy of them.
-    let answers = folder.join("answers");
-    measure(starter, second, &script(1_000_000), &answers)?;
-    let output = folder.join("output");
-    measure(starter, ours, &script(1_000_000), &output)?;
-    if !same(&answers, &output)? {
-        eprintln!("bench: the two do not write the same answers");
-        return Ok(1);
+    let (answers, output) = (folder.join("answers"), folder.join("output"));
+    for script in [folder.join("few"), folder.join("many"), script(1_000_000)] {
+        measure(starter, second, &script, &answers)?;
+        measure(starter, ours, &script, &output)?;
+        if !same(&answers, &output)? {
+            eprintln!("bench: the two do not write the same answers");
+            return Ok(1);
+        }
     }
 
     // Each round runs everything once, so that a disturbance falls on all alike.
@@ -151,6 +156,16 @@ fn bench(words: &[String]) -> io::Result<i32> {
         "log of 1000000 steps".to_string(),
         folder.join("log"),
     ));
+    for waiting in WAITING {
+        for (name, program) in [("ours", ours), ("second", second)] {
+            jobs.push((
+                name,
+                program,
+                format!("32 cores, {waiting} waiting"),
+                folder.join(waiting),
+            ));
+        }
+    }
     let mut runs: Vec<Vec<Measured>> = jobs.iter().map(|_| Vec::new()).collect();
     for _ in 0..repetitions {
         for (job, runs) in jobs.iter().zip(&mut runs) {
@@ -202,6 +217,13 @@ fn bench(words: &[String]) -> io::Result<i32> {
         "at 1000000 steps, ours to second: {}",
         ratio(&rows[2], rows[5].wall, rows[5].cpu)
     );
+    for (at, waiting) in WAITING.iter().enumerate() {
+        let [ours, second] = [&rows[11 + 2 * at], &rows[12 + 2 * at]];
+        println!(
+            "with 32 cores and {waiting} waiting, ours to second: {}",
+            ratio(ours, second.wall, second.cpu)
+        );
+    }
     println!(
         "ours to the copy (the slower of script and answers): {}",
         ratio(&rows[2], floor.0, floor.1)

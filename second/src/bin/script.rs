@@ -1,5 +1,6 @@
-//! Writes one seeded script: `script STEPS SEED [--stretch]`.
-//! With `--stretch`, single tickets are held for half the counter's circle.
+//! Writes one seeded script: `script STEPS SEED [CORES FIRST SECOND] [--stretch | --few]`.
+//! With `--stretch`, single tickets are held for half the counter's circle; with `--few`,
+//! few cores wait at a time.
 
 use std::io::{self, Write};
 
@@ -10,13 +11,19 @@ fn main() -> io::Result<()> {
     let words: Vec<String> = std::env::args().skip(1).collect();
     let number = |at: usize| words.get(at).and_then(|word| word.parse::<u64>().ok());
     let (Some(steps), Some(seed)) = (number(0), number(1)) else {
-        eprintln!("usage: script STEPS SEED [--stretch]");
+        eprintln!("usage: script STEPS SEED [CORES FIRST SECOND] [--stretch | --few]");
         std::process::exit(2);
     };
-    // Every core and several units of both classes, so that all paths are taken.
-    let mut maker = Maker::new(Rng::new(seed, 0), [8, 3, 3], 65_000).steady();
-    if words.get(2).is_some_and(|word| word == "--stretch") {
-        maker = maker.stretching();
+    // Several units of both classes, so that all paths are taken.
+    let counts = match [number(2), number(3), number(4)] {
+        [Some(cores), Some(first), Some(second)] => [cores, first, second].map(|n| n as u16),
+        _ => [8, 3, 3],
+    };
+    let mut maker = Maker::new(Rng::new(seed, 0), counts, 65_000).steady();
+    match words.last().map(String::as_str) {
+        Some("--stretch") => maker = maker.stretching(),
+        Some("--few") => maker = maker.few(),
+        _ => {}
     }
     let mut output = io::stdout().lock();
     let mut piece = Vec::with_capacity(1 << 16);
