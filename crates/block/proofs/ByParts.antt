@@ -48,7 +48,7 @@ use Rattle.plan.specs.declared.planning.Part.{Part}
 use Rattle.plan.specs.declared.planning.Plan.{Plan}
 use Rattle.block.specs.Table.{coreOf, unitOf, registerOf, withRegister, withCore, withCounter, Shaped}
 use Rattle.block.specs.Sound.{sound}
-use Rattle.block.specs.Steps.{verdict, awaited, effectOn, affected, moves, settled, performed, refusal, answered, onSound}
+use Rattle.block.specs.Steps.{late, verdict, awaited, effectOn, affected, moves, settled, performed, refusal, answered, onSound}
 use Rattle.block.specs.PutBack.{changedAt, putBack}
 use Rattle.block.specs.declared.table.Table.{Table}
 use Rattle.block.specs.declared.stepped.Stepped.{Stepped}
@@ -433,13 +433,13 @@ off : (b : Bool) (v : Verdict) → b ≡ true → unless b NoCore v ≡ Refused 
 off true v e = refl
 off false v e = ap (λ (b : Bool). unless b NoCore v) e
 
-far-off : (s : Step) (d : Counts) (m : Ticket) (cs : List Core) (c : Core) → noCore d (whose s) ≡ true → judge s d m cs c ≡ Refused NoCore
-far-off (R k u) d m cs c e = off _ _ e
-far-off (N k u) d m cs c e = off _ _ e
-far-off (P k) d m cs c e = off _ _ e
-far-off (I k) d m cs c e = off _ _ e
-far-off (C k) d m cs c e = off _ _ e
-far-off (L k) d m cs c e = off _ _ e
+far-off : (s : Step) (d : Counts) (l : Bool) (c : Core) → noCore d (whose s) ≡ true → judge s d l c ≡ Refused NoCore
+far-off (R k u) d l c e = off _ _ e
+far-off (N k u) d l c e = off _ _ e
+far-off (P k) d l c e = off _ _ e
+far-off (I k) d l c e = off _ _ e
+far-off (C k) d l c e = off _ _ e
+far-off (L k) d l c e = off _ _ e
 
 -- a core that stands nowhere has its registers blank
 nowhere :
@@ -483,7 +483,7 @@ pub by-parts :
     let i = unitPlace s c in
     let j = otherPlace s c in
     putBack t k i j
-    (planStep s (t .counts) (t .counter) (t .cores) c (partOf (k .0) (unitOf t (i .0))) (partOf (k .0) (unitOf t (j .0)))) ≡
+    (planStep s (t .counts) (t .counter) (late t) c (partOf (k .0) (unitOf t (i .0))) (partOf (k .0) (unitOf t (j .0)))) ≡
     onSound t s
 unfolding planStep onSound
 by-parts t s shaped ok = go (ltb (whose s .0) cores) refl
@@ -501,13 +501,13 @@ by-parts t s shaped ok = go (ltb (whose s .0) cores) refl
     go :
         (b : Bool) →
         ltb (whose s .0) cores ≡ b →
-        whole t s (corePlace s) (judge s (t .counts) (t .counter) (t .cores) (coreOf t (corePlace s .0))) ≡ answered t (verdict t s) (performed t s)
+        whole t s (corePlace s) (judge s (t .counts) (late t) (coreOf t (corePlace s .0))) ≡ answered t (verdict t s) (performed t s)
     go true e =
-        ap (λ (k : CoreNo). whole t s k (judge s (t .counts) (t .counter) (t .cores) (coreOf t (k .0)))) (core-itself (whose s) (ltb-true (whose s .0) cores e)) ∙
+        ap (λ (k : CoreNo). whole t s k (judge s (t .counts) (late t) (coreOf t (k .0)))) (core-itself (whose s) (ltb-true (whose s .0) cores e)) ∙
         judged (verdict t s) refl
     go false e =
         let few = cores-few (t .counts) (parts t ok .counts) in
         let off : noCore (t .counts) (whose s) ≡ true = le-leb (t .counts .cores) (whose s .0) (omega (arith, few, ltb-false (whose s .0) cores e)) in
-        ap (whole t s (corePlace s)) (far-off s (t .counts) (t .counter) (t .cores) (coreOf t (corePlace s .0)) off) ∙
+        ap (whole t s (corePlace s)) (far-off s (t .counts) (late t) (coreOf t (corePlace s .0)) off) ∙
         put-back (corePlace s) NoCore ∙
-        sym (ap (λ (v : Verdict). answered t v (performed t s)) (far-off s (t .counts) (t .counter) (t .cores) (coreOf t (whose s .0)) off))
+        sym (ap (λ (v : Verdict). answered t v (performed t s)) (far-off s (t .counts) (late t) (coreOf t (whose s .0)) off))

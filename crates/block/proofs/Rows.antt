@@ -1,14 +1,12 @@
--- The units of a table as a run holds them, a row of registers for each unit and what each shows: a list that is filled place by place becomes
--- the other; a changed register of a row is the changed register of its unit, and the flag that is passed on and the next in line that
--- is found by the pairs are those of the unit.
-use Prim.Native.Nat.{ℕ, zero, suc, _+_, _≤_, _<_}
+-- The units of a table as a run holds them, a row of registers for each unit and what each shows: a changed register of a row is the changed
+-- register of its unit, and the flag that is passed on and the next in line that is found by the pairs are those of the unit.
+use Prim.Native.Nat.{ℕ, zero, suc, _<_}
 use mathlib.Core.Bool.{true, false}
-use mathlib.Core.List.{List, [], _∷_, _++_, map}
+use mathlib.Core.List.{List, [], _∷_, map}
 use mathlib.Core.Path.{_≡_, refl, sym, _∙_, ap, ap₂}
-use native.Mathlib.Numerals.{add-one}
 use native.Mathlib.Omega.{arith}
-use lib.ListN.{length, getD, set, take, length-set, length-map, List·getD-map}
-use lib.Seq.{getD-set-same, set-set, take-all, take-suc, take-suc-set}
+use lib.ListN.{length, getD, set, length-set, length-map, List·getD-map}
+use lib.Seq.{getD-set-same, set-set}
 use Rattle.ticket.specs.declared.kinds.CoreNo.{CoreNo}
 use Rattle.ticket.specs.declared.kinds.UnitNo.{UnitNo}
 use Rattle.parts.specs.Parts.{cores, units, blank, nobody, absentUnit, registered, showing}
@@ -24,18 +22,6 @@ use Rattle.plan.specs.declared.planning.Part.{Part}
 use Rattle.plan.specs.declared.planning.Plan.{Plan}
 use Rattle.block.specs.PutBack.{changedAt, withUnits, putBack}
 use Rattle.block.specs.declared.table.Table.{Table}
-
--- Filling: xs is what the list ys becomes
-
-module _ {A : Type 0} (xs ys : List A) (i : ℕ) (so : take i ys ≡ take i xs) where
-  pub fills : (d a : A) → i < length xs → i < length ys → a ≡ getD xs i d → take (i + 1) (set ys i a) ≡ take (i + 1) xs
-  fills d a l m e =
-      rw add-one
-      (take-suc-set ys i a m ∙ ap (λ (b : A). take i ys ++ (b ∷ [])) e ∙ ap (λ (l : List A). l ++ (getD xs i d ∷ [])) so ∙
-      sym (take-suc xs i d l))
-
-  pub filled : length xs ≤ i → length ys ≤ i → ys ≡ xs
-  filled l m = sym (take-all i ys m) ∙ so ∙ take-all i xs l
 
 -- Taking apart
 

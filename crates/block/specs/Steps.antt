@@ -1,6 +1,6 @@
 -- "The steps": a step is judged; an allowed one has its effect on the table, and then every unit settles.
 use Prim.Native.Nat.{ℕ}
-use mathlib.Core.Bool.{cond}
+use mathlib.Core.Bool.{Bool, cond}
 use Rattle.ticket.specs.Kinds.{ticket}
 use Rattle.ticket.specs.declared.kinds.Ticket.{Ticket}
 use Rattle.parts.specs.Fold.{upTo}
@@ -12,7 +12,7 @@ use Rattle.parts.specs.declared.answer.Answer.{Answer}
 use Rattle.parts.specs.declared.answer.Answer.the-variants.{Unsound}
 use Rattle.parts.specs.declared.answer.Grants.the-variants.{None}
 use Rattle.parts.specs.declared.answer.Step.{Step}
-use Rattle.refusals.specs.Judge.{judge}
+use Rattle.refusals.specs.Judge.{stretched, judge}
 use Rattle.refusals.specs.declared.verdict.Verdict.{Verdict}
 use Rattle.refusals.specs.declared.verdict.Verdict.the-variants.{Allowed, Refused}
 use Rattle.settling.specs.Line.{next}
@@ -26,9 +26,13 @@ use Rattle.block.specs.Sound.{sound}
 use Rattle.block.specs.declared.table.Table.{Table}
 use Rattle.block.specs.declared.stepped.Stepped.{Stepped}
 
+-- 15: "some live ticket lies 32,768 or more behind the counter"
+abbrev pub late : Table → Bool
+late t = stretched (t .counter) (t .cores) (t .counts .cores)
+
 -- whether the step is allowed
 abbrev pub verdict : Table → Step → Verdict
-verdict t s = judge s (t .counts) (t .counter) (t .cores) (coreOf t (whose s .0))
+verdict t s = judge s (t .counts) (late t) (coreOf t (whose s .0))
 
 -- the unit that a core waits for
 abbrev pub awaited : Core → ℕ

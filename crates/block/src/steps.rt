@@ -10,6 +10,9 @@ use places::unit_place;
 use plan::Part;
 use plan::Plan;
 use plan::plan_step;
+use refusals::late_for;
+use refusals::lives_of;
+use refusals::owns_of;
 use settling::Change;
 use settling::changed;
 use ticket::CoreNo;
@@ -20,7 +23,8 @@ ghost use Prim.Native.Nat.{_≤_, _<_};
 ghost use Rattle.parts.specs.Parts.{cores, units};
 ghost use Rattle.block.specs.Table.{unitOf};
 ghost use Rattle.block.specs.Sound.{sound};
-ghost use Rattle.block.specs.Steps.{onSound, step};
+ghost use Rattle.block.specs.Steps.{late, onSound, step};
+ghost use Rattle.refusals.specs.Tickets.{asked};
 ghost use Rattle.settling.specs.Line.{Within};
 ghost use Rattle.plan.specs.Plan.{partOf};
 ghost use Rattle.block.specs.PutBack.{withChange, withUnits, putBack};
@@ -52,9 +56,22 @@ impl Table {
         let y = self.read(j, k);
         let counts = self.counts;
         let counter = self.counter;
-        let all = self.cores;
-        let p = plan_step(s, counts, counter, all, c, x, y);
+        let late = self.late(s);
+        let p = plan_step(s, counts, counter, late, c, x, y);
         self.put_back(k, i, j, p)
+    }
+
+    // Whether a live ticket is stretched, if the step's verdict asks it.
+    fn late(self, s: Step) -> bool
+        requires { ⌜ self .counts .cores ≤ cores ⌝ }
+        ensures { λ r. ⌜ r ≡ asked s (late self) ⌝ }
+    {
+        let counts = self.counts;
+        let counter = self.counter;
+        let all = self.cores;
+        let lives = lives_of(all);
+        let owns = owns_of(all);
+        late_for(s, counts, counter, &lives, &owns)
     }
 
     // What a step of core k reads of unit u.

@@ -22,14 +22,14 @@ use Rattle.parts.specs.declared.answer.Answer.{Answer}
 use Rattle.parts.specs.declared.answer.Answer.the-variants.{Done, NoCore, NoUnit, WrongState, WrongClass, Masked, Stretched}
 use Rattle.parts.specs.declared.answer.Step.{Step}
 use Rattle.parts.specs.declared.answer.Step.the-variants.{R, N, P, I, C, L}
-use Rattle.refusals.specs.Judge.{unless, noCore, noUnit, wrongClass, stretched, known, inState, judge}
+use Rattle.refusals.specs.Judge.{unless, noCore, noUnit, wrongClass, known, inState, judge}
 use Rattle.refusals.specs.declared.verdict.Verdict.{Verdict}
 use Rattle.refusals.specs.declared.verdict.Verdict.the-variants.{Allowed, Refused}
 use Rattle.effects.specs.declared.kinds.Effect.{Effect}
 use Rattle.block.specs.Table.{coreOf, registerOf, Shaped}
 use Rattle.block.specs.Settle.{settle}
 use Rattle.block.specs.Sound.{sound}
-use Rattle.block.specs.Steps.{verdict, effectOn, moves, performed, onSound, step, refusal}
+use Rattle.block.specs.Steps.{late, verdict, effectOn, moves, performed, onSound, step, refusal}
 use Rattle.block.specs.declared.table.Table.{Table}
 use Rattle.block.specs.declared.stepped.Stepped.{Stepped}
 use Rattle.parts.proofs.Along.{same-or-not}
@@ -73,14 +73,14 @@ turned-known n k u v f = turned-unless (noCore n k) NoCore (unless (noUnit n u) 
 turned-state : (n : Counts) (k : CoreNo) (right : Bool) → Turned (inState n k right)
 turned-state n k right = turned-two (noCore n k) (not right) NoCore WrongState refl refl
 
-turned : (z : Step) (n : Counts) (m : Ticket) (cs : List Core) (c : Core) → Turned (judge z n m cs c)
-turned (R k u) n m cs c = turned-known n k u _ (turned-two (not (isIdle (c .state))) (stretched m cs (n .cores)) WrongState Stretched refl refl)
-turned (N k u) n m cs c = turned-known n k u _ (turned-two (not (holdsOne (c .state))) (wrongClass n (c .first) u) WrongState WrongClass refl refl)
-turned (P k) n m cs c = turned-state n k (waits (c .state))
-turned (I k) n m cs c =
+turned : (z : Step) (n : Counts) (late : Bool) (c : Core) → Turned (judge z n late c)
+turned (R k u) n late c = turned-known n k u _ (turned-two (not (isIdle (c .state))) late WrongState Stretched refl refl)
+turned (N k u) n late c = turned-known n k u _ (turned-two (not (holdsOne (c .state))) (wrongClass n (c .first) u) WrongState WrongClass refl refl)
+turned (P k) n late c = turned-state n k (waits (c .state))
+turned (I k) n late c =
     turned-unless (noCore n k) NoCore _ refl (turned-two (holds (c .state)) (not (waits (c .state))) Masked WrongState refl refl)
-turned (C k) n m cs c = turned-state n k (isAway (c .state))
-turned (L k) n m cs c = turned-state n k (holds (c .state))
+turned (C k) n late c = turned-state n k (isAway (c .state))
+turned (L k) n late c = turned-state n k (holds (c .state))
 
 -- A step, by how it was judged
 
@@ -146,7 +146,7 @@ module _ (t : Table) (g : Good t) where
           (record {
             table = ap (λ (x : Stepped). x .table) same;
             none = ap (λ (x : Stepped). listed (x .grants)) same;
-            undone = ap (λ (x : Stepped). eqb (numberOf (x .answer)) 0) same ∙ turned z (t .counts) (t .counter) (t .cores) (coreOf t (whose z .0)) a e;
+            undone = ap (λ (x : Stepped). eqb (numberOf (x .answer)) 0) same ∙ turned z (t .counts) (late t) (coreOf t (whose z .0)) a e;
           })
 
   pub done-accepted : (z : Step) → done t z ≡ true → Accepted t z

@@ -14,7 +14,7 @@ use Rattle.plan.specs.Plan.{partOf, planStep}
 use Rattle.block.specs.Over.{over, lastPlace}
 use Rattle.block.specs.PutBack.{putBack}
 use Rattle.block.specs.Sound.{sound}
-use Rattle.block.specs.Steps.{step}
+use Rattle.block.specs.Steps.{late, step}
 use Rattle.block.specs.Table.{coreOf, unitOf, Shaped}
 use Rattle.block.specs.declared.stepped.Stepped.{Stepped}
 use Rattle.block.specs.declared.table.Table.{Table}
@@ -31,7 +31,7 @@ planned t s =
     let i = unitPlace s c in
     let j = otherPlace s c in
     putBack t k i j
-    (planStep s (t .counts) (t .counter) (t .cores) c (partOf (k .0) (unitOf t (i .0))) (partOf (k .0) (unitOf t (j .0))))
+    (planStep s (t .counts) (t .counter) (late t) c (partOf (k .0) (unitOf t (i .0))) (partOf (k .0) (unitOf t (j .0))))
 
 pub step-planned : (t : Table) (s : Step) → Shaped t → sound t ≡ true → step t s ≡ planned t s
 step-planned t s shaped ok = on-sound t s ok ∙ sym (by-parts t s shaped ok)

@@ -25,6 +25,10 @@ use places::other_place;
 use places::unit_place;
 use plan::Plan;
 use plan::plan_step;
+use refusals::is_live;
+use refusals::late_for;
+use refusals::lives_of;
+use refusals::owns_of;
 use settling::passed_to;
 use settling::repicked;
 use settling::with_flag;
@@ -267,6 +271,8 @@ fn log_lines(run: Run, log: &[u8]) -> Checked
     let mut table = run.table;
     let mut rows = rows_of(table);
     let mut nexts = nexts_of(table);
+    let mut lives = lives_of(table.cores);
+    let mut owns = owns_of(table.cores);
     let mut space = [0u8; SHOWN_MOST];
     loop {
         let place = at.place;
@@ -280,7 +286,8 @@ fn log_lines(run: Run, log: &[u8]) -> Checked
                 let j = other_place(s, c).0 as usize;
                 let x = plan::Part::of(rows[i][k], nexts[i]);
                 let y = plan::Part::of(rows[j][k], nexts[j]);
-                let p = plan_step(s, table.counts, table.counter, table.cores, c, x, y);
+                let late = late_for(s, table.counts, table.counter, &lives, &owns);
+                let p = plan_step(s, table.counts, table.counter, late, c, x, y);
                 let counter = p.counter;
                 match line_meets(log, place, behind, given_by(p), &mut space) {
                     Met::Stop(why) => return stopped(at, gathered(table, rows, nexts), why),
@@ -316,7 +323,10 @@ fn log_lines(run: Run, log: &[u8]) -> Checked
                                 );
                             }
                         }
+                        let own = core.own;
                         table.cores[k] = core;
+                        lives[k] = is_live(core);
+                        owns[k] = own.0;
                         table.counter = counter;
                         at.steps += 1;
                         at.place = next;

@@ -1,7 +1,7 @@
 -- A plan, from what its calls give: the verdict decides, and then what the core does. Whoever a plan grants is one of the table's.
 use Prim.Native.Nat.{_<_}
 use mathlib.Core.Bool.{Bool, true, false, cond}
-use mathlib.Core.List.{List, _++_}
+use mathlib.Core.List.{_++_}
 use mathlib.Core.Path.{_≡_, sym, _∙_, ap}
 use Rattle.ticket.specs.Kinds.{ticket}
 use Rattle.ticket.specs.Order.{compare}
@@ -21,6 +21,8 @@ use Rattle.parts.specs.declared.answer.Step.{Step}
 use Rattle.places.specs.Places.{corePlace}
 use Rattle.places.proofs.Placing.{core-place-within}
 use Rattle.refusals.specs.Judge.{judge}
+use Rattle.refusals.specs.Tickets.{asked}
+use Rattle.refusals.proofs.Apart.{judge-asked}
 use Rattle.refusals.specs.declared.verdict.Verdict.{Verdict}
 use Rattle.refusals.specs.declared.verdict.Verdict.the-variants.{Allowed, Refused}
 use Rattle.settling.specs.Line.{stored, won, Within}
@@ -98,12 +100,12 @@ module _ (e : Effect) (k : CoreNo) (c : Core) (x y : Part) (p : Plan) where
 
 -- the verdict decides
 module _
-    (s : Step) (n : Counts) (m : Ticket) (cs : List Core) (c : Core) (x y : Part) (v : Verdict) (p : Plan) (says : v ≡ judge s n m cs c)
+    (s : Step) (n : Counts) (m : Ticket) (late : Bool) (c : Core) (x y : Part) (v : Verdict) (p : Plan) (says : v ≡ judge s n late c)
   where
     abbrev by : Verdict → Plan
     by z = decided z m c x y (carryOut (stepEffect s m c (y .register .flag) (stored (x .next))) (corePlace s) c x y)
 
-    pub refuses : (a : Answer) → v ≡ Refused a → p ≡ refuse a m c x y → p ≡ planStep s n m cs c x y
+    pub refuses : (a : Answer) → v ≡ Refused a → p ≡ refuse a m c x y → p ≡ planStep s n m late c x y
     unfolding planStep
     refuses a told is = is ∙ ap by (sym told ∙ says)
 
@@ -114,7 +116,7 @@ module _
         b ≡ stored (x .next) →
         e ≡ stepEffect s m c (y .register .flag) b →
         p ≡ carryOut e k c x y →
-        p ≡ planStep s n m cs c x y
+        p ≡ planStep s n m late c x y
     unfolding planStep
     allows k b e told at eb ee is = is ∙ rw (ee, eb, at) (ap by (sym told ∙ says))
 
@@ -171,10 +173,10 @@ module _ (k : CoreNo) (h : k .0 < cores) where
       go false = (leaves-within x, tt)
 
 pub winners-within :
-    (s : Step) (n : Counts) (m : Ticket) (cs : List Core) (c : Core) (x y : Part) →
-    let p = planStep s n m cs c x y in Within (p .first .winner) × Within (p .second .winner)
+    (s : Step) (n : Counts) (m : Ticket) (late : Bool) (c : Core) (x y : Part) →
+    let p = planStep s n m late c x y in Within (p .first .winner) × Within (p .second .winner)
 unfolding planStep
-winners-within s n m cs c x y = go (judge s n m cs c)
+winners-within s n m late c x y = go (judge s n late c)
   where
     go :
         (v : Verdict) →
@@ -182,3 +184,11 @@ winners-within s n m cs c x y = go (judge s n m cs c)
     go Allowed =
         let e = stepEffect s m c (y .register .flag) (stored (x .next)) in carried-within (corePlace s) (core-place-within s) (e .does) e c x y
     go (Refused a) = (tt, tt)
+
+-- a plan that does not ask whether a live ticket is stretched is the same either way
+pub plan-asked :
+    (s : Step) (n : Counts) (m : Ticket) (late : Bool) (c : Core) (x y : Part) → planStep s n m (asked s late) c x y ≡ planStep s n m late c x y
+unfolding planStep
+plan-asked s n m late c x y =
+    let e = stepEffect s m c (y .register .flag) (stored (x .next)) in
+    ap (λ (v : Verdict). decided v m c x y (carryOut e (corePlace s) c x y)) (judge-asked s n late c)

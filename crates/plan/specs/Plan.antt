@@ -2,7 +2,7 @@
 -- them. Put back, this is the step on a sound table: the law `by-parts`.
 use Prim.Native.Nat.{ℕ}
 use mathlib.Core.Bool.{Bool, true, false, cond}
-use mathlib.Core.List.{List, _++_}
+use mathlib.Core.List.{_++_}
 use Rattle.ticket.specs.Kinds.{ticket}
 use Rattle.ticket.specs.declared.kinds.CoreNo.{CoreNo}
 use Rattle.ticket.specs.declared.kinds.Ticket.{Ticket}
@@ -103,7 +103,7 @@ abbrev pub decided : Verdict → Ticket → Core → Part → Part → Plan → 
 decided Allowed m c x y p = p
 decided (Refused a) m c x y p = refuse a m c x y
 
--- the step: n are the counts, m the counter, cs the cores, c the core that it names
-unfoldable pub planStep : Step → Counts → Ticket → List Core → Core → Part → Part → Plan
-planStep s n m cs c x y =
-    decided (judge s n m cs c) m c x y (carryOut (stepEffect s m c (y .register .flag) (stored (x .next))) (corePlace s) c x y)
+-- the step: n are the counts, m the counter, late whether a live ticket is stretched, c the core that it names
+unfoldable pub planStep : Step → Counts → Ticket → Bool → Core → Part → Part → Plan
+planStep s n m late c x y =
+    decided (judge s n late c) m c x y (carryOut (stepEffect s m c (y .register .flag) (stored (x .next))) (corePlace s) c x y)

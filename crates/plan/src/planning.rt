@@ -6,7 +6,6 @@ use effects::Effect;
 use effects::Move;
 use effects::step_effect;
 use parts::Answer;
-use parts::CORES;
 use parts::Core;
 use parts::Counts;
 use parts::Grants;
@@ -28,8 +27,6 @@ use ticket::Ticket;
 use ticket::UnitNo;
 ghost use mathlib.Core.Path.{_≡_};
 ghost use mathlib.Core.Bool.{true, false};
-ghost use Prim.Native.Nat.{_≤_};
-ghost use Rattle.parts.specs.Parts.{cores};
 ghost use Rattle.settling.specs.Settle.{enter, leave};
 ghost use Rattle.plan.specs.Plan.{part, staying, refuse, withChanges, entered, leaves, givenUp, carryOut, planStep};
 
@@ -162,15 +159,14 @@ pub fn plan_step(
     s: Step,
     counts: Counts,
     counter: Ticket,
-    all: [Core; CORES],
+    late: bool,
     c: Core,
     x: Part,
     y: Part,
 ) -> Plan
-    requires { ⌜ counts .cores ≤ cores ⌝ }
-    ensures { λ p. ⌜ p ≡ planStep s counts counter all c x y ⌝ }
+    ensures { λ p. ⌜ p ≡ planStep s counts counter late c x y ⌝ }
 {
-    match judge(s, counts, counter, all, c) {
+    match judge(s, counts, late, c) {
         Verdict::Refused(a) => refuse(a, counter, c, x, y),
         Verdict::Allowed => {
             let k = core_place(s);

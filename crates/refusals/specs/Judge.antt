@@ -1,6 +1,7 @@
 -- "Order for a step: 16, 10, 11, then 12 or 14, then 13, 15. Each is given exactly when its condition holds and no earlier one does."
--- A verdict depends on the counts, on the state of the core that the step names, for N on the unit that it holds and for R on the counter
--- and the cores up to the count. Past the count a sound table has idle cores alone, whose tickets are not live.
+-- A verdict depends on the counts, on the state of the core that the step names, for N on the unit that it holds and for R on whether a live
+-- ticket is stretched, which the counter and the cores up to the count tell. Past the count a sound table has idle cores alone, whose tickets are
+-- not live.
 use Prim.Native.Nat.{ℕ, _+_}
 use mathlib.Core.Bool.{Bool, true, false, cond, _&&_, _||_, not}
 use mathlib.Core.List.{List}
@@ -45,9 +46,13 @@ wrongClass n held u = ltb (u .0) (n .first) || leb (n .first) (held .0)
 abbrev pub far : Comparison → Bool
 far x = elim x [ Older ↦ false | Younger ↦ true | Same ↦ false | Opposite ↦ true ]
 
+-- "A ticket is live from its request to its release, also while its core is away."
+abbrev pub live : Core → Bool
+live c = not (isIdle (c .state))
+
 -- 15: "some live ticket lies 32,768 or more behind the counter"
 abbrev pub old : Ticket → Core → Bool
-old m c = not (isIdle (c .state)) && far (compare (c .own .0) (m .0))
+old m c = live c && far (compare (c .own .0) (m .0))
 
 abbrev pub stretched : Ticket → List Core → ℕ → Bool
 stretched m cs n = some (λ (k : ℕ). old m (getD cs k idle)) n
@@ -56,8 +61,8 @@ stretched m cs n = some (λ (k : ℕ). old m (getD cs k idle)) n
 abbrev pub known : Counts → CoreNo → UnitNo → Verdict → Verdict
 known n k u further = unless (noCore n k) NoCore (unless (noUnit n u) NoUnit further)
 
-abbrev pub mayRequest : Counts → Ticket → List Core → CoreNo → State → UnitNo → Verdict
-mayRequest n m cs k s u = known n k u (unless (not (isIdle s)) WrongState (unless (stretched m cs (n .cores)) Stretched Allowed))
+abbrev pub mayRequest : Counts → Bool → CoreNo → State → UnitNo → Verdict
+mayRequest n late k s u = known n k u (unless (not (isIdle s)) WrongState (unless late Stretched Allowed))
 
 abbrev pub mayNest : Counts → CoreNo → State → UnitNo → UnitNo → Verdict
 mayNest n k s held u = known n k u (unless (not (holdsOne s)) WrongState (unless (wrongClass n held u) WrongClass Allowed))
@@ -69,11 +74,11 @@ inState n k right = unless (noCore n k) NoCore (unless (not right) WrongState Al
 abbrev pub mayInterrupt : Counts → CoreNo → State → Verdict
 mayInterrupt n k s = unless (noCore n k) NoCore (unless (holds s) Masked (unless (not (waits s)) WrongState Allowed))
 
--- the step: n are the counts, m the counter, cs the cores, c the core that it names
-abbrev pub judge : Step → Counts → Ticket → List Core → Core → Verdict
-judge (R k u) n m cs c = mayRequest n m cs k (c .state) u
-judge (N k u) n m cs c = mayNest n k (c .state) (c .first) u
-judge (P k) n m cs c = inState n k (waits (c .state))
-judge (I k) n m cs c = mayInterrupt n k (c .state)
-judge (C k) n m cs c = inState n k (isAway (c .state))
-judge (L k) n m cs c = inState n k (holds (c .state))
+-- the step: n are the counts, late whether a live ticket is stretched, c the core that it names
+abbrev pub judge : Step → Counts → Bool → Core → Verdict
+judge (R k u) n late c = mayRequest n late k (c .state) u
+judge (N k u) n late c = mayNest n k (c .state) (c .first) u
+judge (P k) n late c = inState n k (waits (c .state))
+judge (I k) n late c = mayInterrupt n k (c .state)
+judge (C k) n late c = inState n k (isAway (c .state))
+judge (L k) n late c = inState n k (holds (c .state))

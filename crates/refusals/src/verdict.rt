@@ -1,7 +1,6 @@
 // Which steps are allowed: the refusals 10 to 15, in their order. They are judged by the counts and by the
-// core that the step names; R looks at the other cores too.
+// core that the step names, and R by whether a live ticket is stretched.
 use parts::Answer;
-use parts::CORES;
 use parts::Core;
 use parts::Counts;
 use parts::State;
@@ -11,15 +10,10 @@ use parts::holds_one;
 use parts::is_away;
 use parts::is_idle;
 use parts::waits;
-use ticket::Comparison;
 use ticket::CoreNo;
-use ticket::Ticket;
 use ticket::UnitNo;
-use ticket::compare;
 ghost use mathlib.Core.Path.{_≡_};
-ghost use Prim.Native.Nat.{_≤_};
-ghost use Rattle.parts.specs.Parts.{cores};
-ghost use Rattle.refusals.specs.Judge.{noCore, noUnit, wrongClass, far, old, stretched, mayRequest, mayNest, mayInterrupt, inState, judge};
+ghost use Rattle.refusals.specs.Judge.{noCore, noUnit, wrongClass, mayRequest, mayNest, mayInterrupt, inState, judge};
 
 pub enum Verdict {
     Allowed,
@@ -48,58 +42,8 @@ fn wrong_class(counts: Counts, held: UnitNo, u: UnitNo) -> bool
     (u.0 < counts.first) | (held.0 >= counts.first)
 }
 
-// Whether a ticket that compares so with the counter lies 32,768 or more behind it.
-fn far(x: Comparison) -> bool
-    ensures { λ r. ⌜ r ≡ far x ⌝ }
-{
-    match x {
-        // It lies 1 to 32,767 behind.
-        Comparison::Older => false,
-        // It lies 32,769 or more behind, and reads as one still to come.
-        Comparison::Younger => true,
-        // It is what the counter shows, and lies 0 behind. In a sound table this is not met.
-        Comparison::Same => false,
-        // It lies 32,768 behind.
-        Comparison::Opposite => true,
-    }
-}
-
-// A core's ticket is live and lies half the circle or more behind the counter.
-fn old(counter: Ticket, c: Core) -> bool
-    ensures { λ r. ⌜ r ≡ old counter c ⌝ }
-{
-    let s = c.state;
-    let own = c.own;
-    !is_idle(s) & far(compare(own, counter))
-}
-
-// 15: some live ticket does. The cores past the count are not looked at.
-fn stretched(counts: Counts, counter: Ticket, all: [Core; CORES]) -> bool
-    requires { ⌜ counts .cores ≤ cores ⌝ }
-    ensures { λ r. ⌜ r ≡ stretched counter all (counts .cores) ⌝ }
-{
-    let n = counts.cores as usize;
-    let mut k = 0;
-    while k < n {
-        let c = all[k];
-        if old(counter, c) {
-            return true;
-        }
-        k += 1;
-    }
-    false
-}
-
-fn may_request(
-    counts: Counts,
-    counter: Ticket,
-    all: [Core; CORES],
-    k: CoreNo,
-    s: State,
-    u: UnitNo,
-) -> Verdict
-    requires { ⌜ counts .cores ≤ cores ⌝ }
-    ensures { λ r. ⌜ r ≡ mayRequest counts counter all k s u ⌝ }
+fn may_request(counts: Counts, late: bool, k: CoreNo, s: State, u: UnitNo) -> Verdict
+    ensures { λ r. ⌜ r ≡ mayRequest counts late k s u ⌝ }
 {
     if no_core(counts, k) {
         return Verdict::Refused(Answer::NoCore);
@@ -110,7 +54,7 @@ fn may_request(
     if !is_idle(s) {
         return Verdict::Refused(Answer::WrongState);
     }
-    if stretched(counts, counter, all) {
+    if late {
         return Verdict::Refused(Answer::Stretched);
     }
     Verdict::Allowed
@@ -162,15 +106,14 @@ fn in_state(counts: Counts, k: CoreNo, right: bool) -> Verdict
     Verdict::Allowed
 }
 
-// Seam: whether a step is allowed, of which c is the core that it names.
-pub fn judge(s: Step, counts: Counts, counter: Ticket, all: [Core; CORES], c: Core) -> Verdict
-    requires { ⌜ counts .cores ≤ cores ⌝ }
-    ensures { λ r. ⌜ r ≡ judge s counts counter all c ⌝ }
+// Seam: whether a step is allowed, of which c is the core that it names; `late` is the answer to 15's question.
+pub fn judge(s: Step, counts: Counts, late: bool, c: Core) -> Verdict
+    ensures { λ r. ⌜ r ≡ judge s counts late c ⌝ }
 {
     let z = c.state;
     let held = c.first;
     match s {
-        Step::R(k, u) => may_request(counts, counter, all, k, z, u),
+        Step::R(k, u) => may_request(counts, late, k, z, u),
         Step::N(k, u) => may_nest(counts, k, z, held, u),
         Step::P(k) => in_state(counts, k, waits(z)),
         Step::I(k) => may_interrupt(counts, k, z),

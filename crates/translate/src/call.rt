@@ -14,6 +14,10 @@ use places::unit_place;
 use plan::Part;
 use plan::Plan;
 use plan::plan_step;
+use refusals::is_live;
+use refusals::late_for;
+use refusals::lives_of;
+use refusals::owns_of;
 use settling::passed_to;
 use settling::repicked;
 use settling::with_flag;
@@ -80,6 +84,8 @@ fn step_lines(run: Run, fit: bool, script: &[u8], out: &mut [u8]) -> Stopped
     let mut table = run.table;
     let mut rows = rows_of(table);
     let mut nexts = nexts_of(table);
+    let mut lives = lives_of(table.cores);
+    let mut owns = owns_of(table.cores);
     loop {
         match due(script, at.place, at.steps, fit) {
             Todo::Stop(why) => return stopped(at, gathered(table, rows, nexts), why),
@@ -91,7 +97,8 @@ fn step_lines(run: Run, fit: bool, script: &[u8], out: &mut [u8]) -> Stopped
                 let j = other_place(s, c).0 as usize;
                 let x = Part::of(rows[i][k], nexts[i]);
                 let y = Part::of(rows[j][k], nexts[j]);
-                let p = plan_step(s, table.counts, table.counter, table.cores, c, x, y);
+                let late = late_for(s, table.counts, table.counter, &lives, &owns);
+                let p = plan_step(s, table.counts, table.counter, late, c, x, y);
                 if !line_fits(out.len(), at.wrote, at.steps + 1, p) {
                     return stopped(at, gathered(table, rows, nexts), Stop::NoRoom); // 23
                 }
@@ -121,7 +128,10 @@ fn step_lines(run: Run, fit: bool, script: &[u8], out: &mut [u8]) -> Stopped
                         nexts[i] = repicked(table.counts.cores, unit_with(rows[i], nexts[i]));
                     }
                 }
+                let own = core.own;
                 table.cores[k] = core;
+                lives[k] = is_live(core);
+                owns[k] = own.0;
                 table.counter = counter;
                 at.steps += 1;
                 at.place = next;

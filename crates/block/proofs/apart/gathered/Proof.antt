@@ -8,10 +8,11 @@ use borrow.Author.Needs.{needs}
 use Rattle.parts.specs.Parts.{units, absentUnit}
 use Rattle.parts.specs.declared.kinds.LockUnit.{LockUnit}
 use Rattle.parts.proofs.kinds.Next as N
+use Rattle.parts.proofs.Filling.{fills, filled}
 use Rattle.block.specs.Apart.{together}
 use Rattle.block.specs.declared.table.Table.{Table}
 use Rattle.block.proofs.Held.{held}
-use Rattle.block.proofs.Rows.{fills, filled, unit-at, together-long}
+use Rattle.block.proofs.Rows.{unit-at, together-long}
 use Rattle.block.proofs.apart.gathered.Statement.{statement}
 use Rattle.block.proofs.apart.gathered.Tie as tie
 

@@ -5,9 +5,10 @@ use native.Mathlib.Omega.{arith}
 use lib.ListN.{length, length-set, take}
 use borrow.Author.Needs.{needs}
 use Rattle.parts.specs.Parts.{units, nobody}
+use Rattle.parts.proofs.Filling.{fills, filled}
 use Rattle.block.specs.Apart.{nextsOf}
 use Rattle.block.proofs.Held.{held}
-use Rattle.block.proofs.Rows.{fills, filled, next-of, nexts-long}
+use Rattle.block.proofs.Rows.{next-of, nexts-long}
 use Rattle.block.proofs.apart.nexts_of.Statement.{statement}
 use Rattle.block.proofs.apart.nexts_of.Tie as tie
 

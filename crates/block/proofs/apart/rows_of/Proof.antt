@@ -6,9 +6,10 @@ use native.Mathlib.Omega.{arith}
 use lib.ListN.{length, length-set, take}
 use borrow.Author.Needs.{needs}
 use Rattle.parts.specs.Parts.{units}
+use Rattle.parts.proofs.Filling.{fills, filled}
 use Rattle.block.specs.Apart.{rowsOf}
 use Rattle.block.proofs.Held.{held}
-use Rattle.block.proofs.Rows.{fills, filled, row-of, rows-long}
+use Rattle.block.proofs.Rows.{row-of, rows-long}
 use Rattle.block.proofs.apart.rows_of.Statement.{statement}
 use Rattle.block.proofs.apart.rows_of.Tie as tie
 

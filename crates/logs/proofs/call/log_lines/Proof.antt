@@ -2,15 +2,19 @@
 -- put together from the units that the run works apart; the measure is what is left of the log. A step's plan, put back where the units stand, is
 -- the step.
 use Prim.Native.Nat.{ℕ, _+_, _-_, _≤_, _<_}
-use mathlib.Core.Bool.{true}
+use mathlib.Core.Bool.{Bool, true}
+use mathlib.Core.List.{List}
 use mathlib.Core.Logic.{⊎-elim}
 use mathlib.Core.Path.{_≡_, refl, sym, _∙_, ap, ap₂, subst}
 use native.Mathlib.Omega.{arith}
 use lib.Dec.{lit<}
-use lib.ListN.{length}
-use borrow.Author.Needs.{needs, scaled-fits, fits-under}
+use lib.ListN.{length, set}
+use borrow.Author.Needs.{needs, scaled-fits, fits-under, counted-is}
 use Rattle.ticket.specs.declared.kinds.CoreNo.{CoreNo}
 use Rattle.parts.specs.Parts.{cores, units}
+use Rattle.refusals.specs.Judge.{live}
+use Rattle.refusals.specs.Tickets.{ownIn, livesOf, ownsOf}
+use Rattle.refusals.proofs.Apart.{lives-long, owns-long, lives-set, owns-set}
 use Rattle.settling.specs.Line.{Within}
 use Rattle.settling.specs.Settle.{passedTo, repicked}
 use Rattle.settling.specs.declared.line.Best.{Best}
@@ -22,7 +26,7 @@ use Rattle.block.specs.Steps.{onSound, step}
 use Rattle.block.specs.Table.{coreOf}
 use Rattle.block.specs.declared.stepped.Stepped.{Stepped}
 use Rattle.block.specs.declared.table.Table.{Table}
-use Rattle.block.proofs.InPlace.{core-in, unit-in, other-in, counted, granted-in, in-place}
+use Rattle.block.proofs.InPlace.{core-in, unit-in, other-in, counted, granted-in, late-in, in-place}
 use Rattle.block.proofs.Rows.{rows-long, nexts-long, gathered-back, read-at, Put, puts-light, puts-again, Back, back-both, back-none, gathered-stepped}
 use Rattle.laws.proofs.Claims.{on-sound, keeps-sound}
 use Rattle.writing.specs.Claims.{Small}
@@ -39,7 +43,7 @@ use Rattle.logs.proofs.call.log_lines.Statement.{statement}
 use Rattle.logs.proofs.call.log_lines.Tie as tie
 
 abbrev Inv-loop : tie.InvT-loop
-Inv-loop log at₀ table₀ rows₀ nexts₀ space₀ at table rows nexts space =
+Inv-loop log at₀ table₀ rows₀ nexts₀ lives₀ owns₀ space₀ at table rows nexts lives owns space =
     let t = gathered table rows nexts in
     (checkCall (runAt (at₀ .place) (at₀ .wrote) (gathered table₀ rows₀ nexts₀) (at₀ .steps)) log ≡ checkCall (runAt (at .place) (at .wrote) t (at .steps)) log)
     × (at .wrote ≡ at₀ .wrote)
@@ -47,43 +51,45 @@ Inv-loop log at₀ table₀ rows₀ nexts₀ space₀ at table rows nexts space 
     × Held t
     × (length rows ≡ units)
     × (length nexts ≡ units)
+    × (lives ≡ livesOf (table .cores))
+    × (owns ≡ ownsOf (table .cores))
 
 abbrev μ-loop : tie.MeasureT-loop
-μ-loop log at₀ table₀ rows₀ nexts₀ space₀ at table rows nexts space = length log - at .place
+μ-loop log at₀ table₀ rows₀ nexts₀ lives₀ owns₀ space₀ at table rows nexts lives owns space = length log - at .place
 
 -- What each place of the code knows: the start, the start of a turn, the line read, the places, the plan
 
-began : (c : tie.After-nexts-of Inv-loop μ-loop) → let t = c .before .before .before .before .args .run .table in gathered t (c .before .rows-of .result) (c .nexts-of .result) ≡ t
+began : (c : tie.After-owns-of Inv-loop μ-loop) → let t = c .before .before .before .before .before .before .before .before .args .run .table in gathered t (c .before .before .before .before .before .rows-of .result) (c .before .before .before .before .nexts-of .result) ≡ t
 began c =
-    let t = c .before .before .before .before .args .run .table in
-    ap₂ (gathered t) (c .before .rows-of .ensures) (c .nexts-of .ensures) ∙ gathered-back t
+    let t = c .before .before .before .before .before .before .before .before .args .run .table in
+    ap₂ (gathered t) (c .before .before .before .before .before .rows-of .ensures) (c .before .before .before .before .nexts-of .ensures) ∙ gathered-back t
 
 abbrev table-of : tie.At-loop Inv-loop μ-loop → Table
 table-of c = gathered (c .loop .table) (c .loop .rows) (c .loop .nexts)
 
 abbrev loop-of : tie.After-plan-step Inv-loop μ-loop → tie.At-loop Inv-loop μ-loop
-loop-of c = c .before .before .before .before .before .before .before .before .before .before .before .before .before .before .before .before .before .before .before .before .before
+loop-of c = c .before .before .before .before .before .before .before .before .before .before .before .before .before .before .before .before .before .before .before .before .before .before .before .before .before
 
 abbrev line-of : tie.After-plan-step Inv-loop μ-loop → tie.After-s Inv-loop μ-loop
-line-of c = c .before .before .before .before .before .before .before .before .before .before .before .before .before .before .before .before .before .before
+line-of c = c .before .before .before .before .before .before .before .before .before .before .before .before .before .before .before .before .before .before .before .before .before .before
 
 abbrev core-of : tie.After-plan-step Inv-loop μ-loop → tie.After-core-place Inv-loop μ-loop
-core-of c = c .before .before .before .before .before .before .before .before .before .before .before .before .before .before .before .before
+core-of c = c .before .before .before .before .before .before .before .before .before .before .before .before .before .before .before .before .before .before .before .before
 
 abbrev unit-of : tie.After-plan-step Inv-loop μ-loop → tie.After-unit-place Inv-loop μ-loop
-unit-of c = c .before .before .before .before .before .before .before .before .before .before .before .before .before
+unit-of c = c .before .before .before .before .before .before .before .before .before .before .before .before .before .before .before .before .before
 
 abbrev other-of : tie.After-plan-step Inv-loop μ-loop → tie.After-other-place Inv-loop μ-loop
-other-of c = c .before .before .before .before .before .before .before .before .before .before .before
+other-of c = c .before .before .before .before .before .before .before .before .before .before .before .before .before .before .before
 
 -- what still is to be answered is what was at the start
 so-far :
     (c : tie.At-loop Inv-loop μ-loop) →
-    let a = c .before .before .before .before .before .args in
+    let a = c .before .before .before .before .before .before .before .before .before .args in
     let l = c .loop in
     checkCall (a .run) (a .log .now) ≡ checkCall (runAt (l .at .place) (l .at .wrote) (table-of c) (l .at .steps)) (a .log .now)
 so-far c =
-    let s = c .before .before .before .before .before in
+    let s = c .before .before .before .before .before .before .before .before .before in
     let a = s .args in
     begins (a .run) (a .log .now) (s .pre .0)
     ∙ ap (λ (t : Table). checkCall (runAt (a .run .place) (a .run .wrote) t (a .run .steps)) (a .log .now)) (sym (began (c .before)))
@@ -92,11 +98,11 @@ so-far c =
 -- a line whose step is to be worked
 line :
     (c : tie.After-s Inv-loop μ-loop) →
-    let a = c .before .before .before .before .before .before .before .before .args in
+    let a = c .before .before .before .before .before .before .before .before .before .before .before .before .args in
     let l = c .before .before .before .loop in
     Timely (a .log .now) (l .at .place) (l .at .steps) (c .s .given .0 .0) (c .s .given .0 .1 .0)
 line c =
-    let a = c .before .before .before .before .before .before .before .before .args in
+    let a = c .before .before .before .before .before .before .before .before .before .before .before .before .args in
     let l = c .before .before .before .loop in
     let due = c .before .before .line-due in
     let g = c .s .given in
@@ -107,6 +113,13 @@ fit c = c .before .before .before .loop .inv .2
 
 even : (c : tie.At-loop Inv-loop μ-loop) → length (c .loop .rows) ≡ length (c .loop .nexts)
 even c = c .loop .inv .4 ∙ sym (c .loop .inv .5)
+
+-- the tickets apart are as many as the cores
+lives-in : (c : tie.At-loop Inv-loop μ-loop) → length (c .loop .lives) ≡ cores
+lives-in c = ap length (c .loop .inv .6) ∙ lives-long (c .loop .table .cores) (c .loop .inv .3 .shaped .cores-long)
+
+owns-in : (c : tie.At-loop Inv-loop μ-loop) → length (c .loop .owns) ≡ cores
+owns-in c = ap length (c .loop .inv .7) ∙ owns-long (c .loop .table .cores) (c .loop .inv .3 .shaped .cores-long)
 
 core-at : (c : tie.After-core-place Inv-loop μ-loop) → c .core-place .result .0 < cores
 core-at c = core-in (c .before .before .s .given .0 .0) _ (c .core-place .ensures)
@@ -128,10 +141,11 @@ does c =
     let o = loop-of c in
     let l = o .loop in
     let k = core-of c .core-place .result in
-    in-place (table-of o) (line-of c .s .given .0 .0) _ _ _ _ _ _ _ (l .inv .3 .shaped) (fit (line-of c)) (core-of c .core-place .ensures)
+    in-place (table-of o) (line-of c .s .given .0 .0) _ _ _ _ _ _ _ _ (l .inv .3 .shaped) (fit (line-of c)) (core-of c .core-place .ensures)
     (unit-of c .unit-place .ensures) (other-of c .other-place .ensures)
-    (read-at (l .rows) (l .nexts) (unit-of c .unit-place .result .0) (k .0) _ (even o) (c .before .before .before .before .before .before .before .of .ensures))
-    (read-at (l .rows) (l .nexts) (other-of c .other-place .result .0) (k .0) _ (even o) (c .before .before .before .before .of2 .ensures))
+    (read-at (l .rows) (l .nexts) (unit-of c .unit-place .result .0) (k .0) _ (even o) (c .before .before .before .before .before .before .before .before .before .before .before .of .ensures))
+    (read-at (l .rows) (l .nexts) (other-of c .other-place .result .0) (k .0) _ (even o) (c .before .before .before .before .before .before .before .before .of2 .ensures))
+    (late-in (table-of o) (line-of c .s .given .0 .0) (l .lives) (l .owns) _ (l .inv .6) (l .inv .7) (c .before .before .before .late-for .ensures))
     (c .plan-step .ensures) refl
 
 steps-so : (c : tie.After-plan-step Inv-loop μ-loop) → step (table-of (loop-of c)) (line-of c .s .given .0 .0) ≡ stepped c
@@ -158,7 +172,7 @@ granted : (c : tie.After-z Inv-loop μ-loop) → let p = plan-of c .plan-step .r
 granted c =
     let p = plan-of c in
     let t = table-of (loop-of p) in
-    granted-in (line-of p .s .given .0 .0) (t .counts) (t .counter) (t .cores) (coreOf t (core-of p .core-place .result .0)) _ _ _ (p .plan-step .ensures)
+    granted-in (line-of p .s .given .0 .0) (t .counts) (t .counter) (p .before .before .before .late-for .result) (coreOf t (core-of p .core-place .result .0)) _ _ _ (p .plan-step .ensures)
 
 passed-at : (b : Best) (k w : CoreNo) → Within b → k .0 < cores → w ≡ passedTo b k → w .0 < cores
 passed-at b k w h l e = rw e (passed-within b k h l)
@@ -239,17 +253,25 @@ rows-of-requires c κs = tt
 nexts-of-requires : tie.Need-nexts-of-requires Inv-loop μ-loop
 nexts-of-requires c κs = tt
 
+lives-of-requires : tie.Need-lives-of-requires Inv-loop μ-loop
+lives-of-requires c κs = tt
+
+owns-of-requires : tie.Need-owns-of-requires Inv-loop μ-loop
+owns-of-requires c κs = tt
+
 loop-holds : tie.Need-loop-holds Inv-loop μ-loop
 loop-holds c =
-    let s = c .before .before .before .before in
+    let s = c .before .before .before .before .before .before .before .before in
     let t = s .args .run .table in
     let long = s .pre .2 .shaped .units-long in (
       refl,
       refl,
       ap sound (began c) ∙ s .pre .1,
       subst Held (sym (began c)) (s .pre .2),
-      ap length (c .before .rows-of .ensures) ∙ rows-long t long,
-      ap length (c .nexts-of .ensures) ∙ nexts-long t long,
+      ap length (c .before .before .before .before .before .rows-of .ensures) ∙ rows-long t long,
+      ap length (c .before .before .before .before .nexts-of .ensures) ∙ nexts-long t long,
+      c .before .before .lives-of .ensures,
+      c .owns-of .ensures,
     )
 
 line-due-requires : tie.Need-line-due-requires Inv-loop μ-loop
@@ -267,7 +289,7 @@ stopped-requires c κs = tt
 returns : tie.Need-returns Inv-loop μ-loop
 returns c =
     let o = c .before .before .before .before .before .before in
-    let a = c .before .before .before .before .before .before .before .before .before .before .before .args in
+    let a = c .before .before .before .before .before .before .before .before .before .before .before .before .before .before .before .args in
     let l = o .loop in
     let due = c .before .before .before .before .before .line-due in
     let g = c .before .before .before .why .given in
@@ -346,8 +368,20 @@ array-copy-out-of-2 c = other-at (c .before .before .before .before .before)
 of-requires-2 : tie.Need-of-requires-2 Inv-loop μ-loop
 of-requires-2 c κs = tt
 
+slice-aggregate-late-for : tie.Need-slice-aggregate-late-for Inv-loop μ-loop
+slice-aggregate-late-for c = search (lives-in (c .before .before .before .before .before .before .before .before .before .before .before .before .before .before .before .before .before .before .before .before), counted-is)
+
+slice-aggregate-late-for-2 : tie.Need-slice-aggregate-late-for-2 Inv-loop μ-loop
+slice-aggregate-late-for-2 c = search (owns-in (c .before .before .before .before .before .before .before .before .before .before .before .before .before .before .before .before .before .before .before .before .before), counted-is)
+
+late-for-requires : tie.Need-late-for-requires Inv-loop μ-loop
+late-for-requires c κs =
+    let o = c .before .before .before .before .before .before .before .before .before .before .before .before .before .before .before .before .before .before .before .before .before in
+    let counts = counted (table-of o) (fit (c .before .before .before .before .before .before .before .before .before .before .before .before .before .before .before .before .before .before)) in
+    (omega (arith, counts, lives-in o), omega (arith, counts, owns-in o))
+
 plan-step-requires : tie.Need-plan-step-requires Inv-loop μ-loop
-plan-step-requires c κs = counted (table-of (c .before .before .before .before .before .before .before .before .before .before .before .before .before .before .before .before .before .before .before .before)) (fit (c .before .before .before .before .before .before .before .before .before .before .before .before .before .before .before .before .before))
+plan-step-requires c κs = tt
 
 given-by-requires : tie.Need-given-by-requires Inv-loop μ-loop
 given-by-requires c κs = tt
@@ -376,7 +410,7 @@ returns-2 : tie.Need-returns-2 Inv-loop μ-loop
 returns-2 c =
     let p = c .before .before .before .before .before .before .before .before .before in
     let o = loop-of p in
-    let a = c .before .before .before .before .before .before .before .before .before .before .before .before .before .before .before .before .before .before .before .before .before .before .before .before .before .before .before .before .before .before .before .before .before .before .before .args in
+    let a = c .before .before .before .before .before .before .before .before .before .before .before .before .before .before .before .before .before .before .before .before .before .before .before .before .before .before .before .before .before .before .before .before .before .before .before .before .before .before .before .before .before .before .before .args in
     let l = o .loop in
     let i = line-of p in
     let given = c .before .before .before .before .before .before .before .given-by in
@@ -429,11 +463,11 @@ index-2-with-flag c = second-at (c .before)
 with-flag-requires : tie.Need-with-flag-requires Inv-loop μ-loop
 with-flag-requires c κs = tt
 
-mul-t93 : tie.Need-mul-t93 Inv-loop μ-loop
-mul-t93 c = scaled-fits _ _ _ (j-at (c .before .before .before .before .before)) (lit< tt)
+mul-t103 : tie.Need-mul-t103 Inv-loop μ-loop
+mul-t103 c = scaled-fits _ _ _ (j-at (c .before .before .before .before .before)) (lit< tt)
 
-mul-t96 : tie.Need-mul-t96 Inv-loop μ-loop
-mul-t96 c = scaled-fits _ _ _ (second-at (c .before .before .before)) (lit< tt)
+mul-t106 : tie.Need-mul-t106 Inv-loop μ-loop
+mul-t106 c = scaled-fits _ _ _ (second-at (c .before .before .before)) (lit< tt)
 
 index-1-rows : tie.Need-index-1-rows Inv-loop μ-loop
 index-1-rows c = j-at (c .before .before .before .before .before)
@@ -504,11 +538,11 @@ index-2-with-flag-2 c = first-at (c .before)
 with-flag-requires-2 : tie.Need-with-flag-requires-2 Inv-loop μ-loop
 with-flag-requires-2 c κs = tt
 
-mul-t125 : tie.Need-mul-t125 Inv-loop μ-loop
-mul-t125 c = scaled-fits _ _ _ (i-at (c .before .before .before .before .before .before .before .before)) (lit< tt)
+mul-t135 : tie.Need-mul-t135 Inv-loop μ-loop
+mul-t135 c = scaled-fits _ _ _ (i-at (c .before .before .before .before .before .before .before .before)) (lit< tt)
 
-mul-t128 : tie.Need-mul-t128 Inv-loop μ-loop
-mul-t128 c = scaled-fits _ _ _ (first-at (c .before .before .before)) (lit< tt)
+mul-t138 : tie.Need-mul-t138 Inv-loop μ-loop
+mul-t138 c = scaled-fits _ _ _ (first-at (c .before .before .before)) (lit< tt)
 
 index-1-rows-2 : tie.Need-index-1-rows-2 Inv-loop μ-loop
 index-1-rows-2 c = i-at (c .before .before .before .before .before .before .before .before)
@@ -541,42 +575,56 @@ array-set-from-nexts-4 : tie.Need-array-set-from-nexts-4 Inv-loop μ-loop
 array-set-from-nexts-4 c = i-at (c .before .before .before .before .before .before .before .before .before .before .before .before)
 
 mul-core : tie.Need-mul-core Inv-loop μ-loop
-mul-core c = scaled-fits _ _ _ (core-at (core-of (planned c))) (lit< tt)
+mul-core c = scaled-fits _ _ _ (core-at (core-of (planned (c .before)))) (lit< tt)
 
 element-set-from-core : tie.Need-element-set-from-core Inv-loop μ-loop
-element-set-from-core c = core-at (core-of (planned c))
+element-set-from-core c = core-at (core-of (planned (c .before)))
+
+is-live-requires : tie.Need-is-live-requires Inv-loop μ-loop
+is-live-requires c κs = tt
+
+array-write-lives : tie.Need-array-write-lives Inv-loop μ-loop
+array-write-lives c = core-at (core-of (planned (c .before .before)))
+
+mul-owns : tie.Need-mul-owns Inv-loop μ-loop
+mul-owns c = scaled-fits _ _ _ (core-at (core-of (planned (c .before .before)))) (lit< tt)
+
+array-write-owns : tie.Need-array-write-owns Inv-loop μ-loop
+array-write-owns c = core-at (core-of (planned (c .before .before)))
 
 add-at : tie.Need-add-at Inv-loop μ-loop
-add-at c = omega (arith, line (line-of (planned (c .before))) .early)
+add-at c = omega (arith, line (line-of (planned (c .before .before .before))) .early)
 
 loop-less : tie.Need-loop-less Inv-loop μ-loop
 loop-less c =
-    let p = planned (c .before) in
+    let p = planned (c .before .before .before) in
     let o = loop-of p in
-    let a = c .before .before .before .before .before .before .before .before .before .before .before .before .before .before .before .before .before .before .before .before .before .before .before .before .before .before .before .before .before .before .before .before .before .before .before .before .before .before .args in
+    let a = c .before .before .before .before .before .before .before .before .before .before .before .before .before .before .before .before .before .before .before .before .before .before .before .before .before .before .before .before .before .before .before .before .before .before .before .before .before .before .before .before .before .before .before .before .before .before .before .before .args in
     let l = o .loop in
     let i = line-of p in
-    let given = c .before .before .before .before .before .before .before .before .before .before .given-by in
-    let met = c .before .before .before .before .before .before .before .before .line-meets in
-    let g = c .before .before .before .before .before .before .next .given in
+    let given = c .before .before .before .before .before .before .before .before .before .before .before .before .given-by in
+    let met = c .before .before .before .before .before .before .before .before .before .before .line-meets in
+    let g = c .before .before .before .before .before .before .before .before .next .given in
     let m = line-moved (a .log .now) (l .at .place) (l .at .wrote) (table-of o) (l .at .steps) (i .s .given .0 .0) (i .s .given .0 .1 .0) (line i) (fit i) (stepped p)
     (does p) (given .result) (given .ensures) (met .result) (met .ensures) (g .0 .0) (g .1) in
     omega (arith, m .0, m .1)
 
 loop-again : tie.Need-loop-again Inv-loop μ-loop
 loop-again c =
-    let p = planned (c .before) in
+    let p = planned (c .before .before .before) in
     let o = loop-of p in
-    let a = c .before .before .before .before .before .before .before .before .before .before .before .before .before .before .before .before .before .before .before .before .before .before .before .before .before .before .before .before .before .before .before .before .before .before .before .before .before .before .args in
+    let a = c .before .before .before .before .before .before .before .before .before .before .before .before .before .before .before .before .before .before .before .before .before .before .before .before .before .before .before .before .before .before .before .before .before .before .before .before .before .before .before .before .before .before .before .before .before .before .before .before .args in
     let l = o .loop in
     let i = line-of p in
-    let given = c .before .before .before .before .before .before .before .before .before .before .given-by in
-    let met = c .before .before .before .before .before .before .before .before .line-meets in
-    let g = c .before .before .before .before .before .before .next .given in
+    let given = c .before .before .before .before .before .before .before .before .before .before .before .before .given-by in
+    let met = c .before .before .before .before .before .before .before .before .before .before .line-meets in
+    let g = c .before .before .before .before .before .before .before .before .next .given in
     let x = i .s .given .0 .0 in
-    let back = put-back (c .before) in
+    let back = put-back (c .before .before .before) in
+    let k = core-of p .core-place .result .0 in
+    let d = p .plan-step .result .core in
     let e : _ ≡ stepped p .table = gathered-stepped (l .table) (core-of p .core-place .result) (unit-of p .unit-place .result) (other-of p .other-place .result)
-    (p .plan-step .result) (l .rows) (l .nexts) (c .before .if1 .rows) (c .before .if1 .nexts) back in (
+    (p .plan-step .result) (l .rows) (l .nexts) (c .before .before .before .if1 .rows) (c .before .before .before .if1 .nexts) back in (
       l .inv .0
           ∙ line-goes (a .log .now) (l .at .place) (l .at .wrote) (table-of o) (l .at .steps) x (i .s .given .0 .1 .0) (line i) (fit i) (stepped p) (does p)
           (given .result) (given .ensures) (met .result) (met .ensures) (g .0 .0) (g .1)
@@ -586,6 +634,8 @@ loop-again c =
       subst Held (sym e) (subst (λ (y : Stepped). Held (y .table)) (steps-so p) (held-step (table-of o) x (l .inv .3) (fit i))),
       back .rows-so ∙ l .inv .4,
       back .nexts-so ∙ l .inv .5,
+      ap (set (l .lives) k) (c .before .is-live .ensures) ∙ ap (λ (ls : List Bool). set ls k (live d)) (l .inv .6) ∙ sym (lives-set (l .table .cores) k d),
+      ap (λ (os : List ℕ). set os k (ownIn d)) (l .inv .7) ∙ sym (owns-set (l .table .cores) k d),
     )
 
 pub log-lines-spec : {M : Type 1} → statement M
@@ -596,6 +646,8 @@ log-lines-spec =
     μ-loop
     rows-of-requires
     nexts-of-requires
+    lives-of-requires
+    owns-of-requires
     loop-holds
     line-due-requires
     enum-known-why
@@ -625,6 +677,9 @@ log-lines-spec =
     mul-of-6
     array-copy-out-of-2
     of-requires-2
+    slice-aggregate-late-for
+    slice-aggregate-late-for-2
+    late-for-requires
     plan-step-requires
     given-by-requires
     line-meets-requires
@@ -646,8 +701,8 @@ log-lines-spec =
     index-1-with-flag
     index-2-with-flag
     with-flag-requires
-    mul-t93
-    mul-t96
+    mul-t103
+    mul-t106
     index-1-rows
     index-2-rows
     mul-unit-with
@@ -671,8 +726,8 @@ log-lines-spec =
     index-1-with-flag-2
     index-2-with-flag-2
     with-flag-requires-2
-    mul-t125
-    mul-t128
+    mul-t135
+    mul-t138
     index-1-rows-2
     index-2-rows-2
     mul-unit-with-3
@@ -685,6 +740,10 @@ log-lines-spec =
     array-set-from-nexts-4
     mul-core
     element-set-from-core
+    is-live-requires
+    array-write-lives
+    mul-owns
+    array-write-owns
     add-at
     loop-less
     loop-again)

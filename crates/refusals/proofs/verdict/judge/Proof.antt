@@ -2,9 +2,7 @@
 use borrow.Author.Needs.{needs}
 use mathlib.Core.Path.{_≡_, sym, _∙_, ap}
 use mathlib.Core.Bool.{Bool}
-use mathlib.Core.List.{List}
 use Rattle.ticket.specs.declared.kinds.CoreNo.{CoreNo}
-use Rattle.ticket.specs.declared.kinds.Ticket.{Ticket}
 use Rattle.parts.specs.declared.kinds.Core.{Core}
 use Rattle.parts.specs.declared.kinds.Counts.{Counts}
 use Rattle.parts.specs.declared.answer.Step.{Step}
@@ -13,8 +11,8 @@ use Rattle.refusals.specs.declared.verdict.Verdict.{Verdict}
 use Rattle.refusals.proofs.verdict.judge.Statement.{statement}
 use Rattle.refusals.proofs.verdict.judge.Tie as tie
 
-by-letter : (s s' : Step) (n : Counts) (m : Ticket) (cs : List Core) (c : Core) (v : Verdict) → s ≡ s' → v ≡ judge s' n m cs c → v ≡ judge s n m cs c
-by-letter s s' n m cs c v e is = is ∙ ap (λ (z : Step). judge z n m cs c) (sym e)
+by-letter : (s s' : Step) (n : Counts) (late : Bool) (c : Core) (v : Verdict) → s ≡ s' → v ≡ judge s' n late c → v ≡ judge s n late c
+by-letter s s' n late c v e is = is ∙ ap (λ (z : Step). judge z n late c) (sym e)
 
 -- the state, as its test gave it
 stated : (n : Counts) (k : CoreNo) (b d : Bool) (v : Verdict) → b ≡ d → v ≡ inState n k b → v ≡ inState n k d
@@ -68,32 +66,32 @@ in-state-requires-3 c κs = search needs
 returns : tie.Need-returns
 returns c =
     let b = c .before .before .before .before .before .args in
-    by-letter (b .s) _ (b .counts) (b .counter) (b .all) (b .c) _ (c .before .before .s .given .1) (c .may-request .ensures)
+    by-letter (b .s) _ (b .counts) (b .late) (b .c) _ (c .before .before .s .given .1) (c .may-request .ensures)
 
 returns-2 : tie.Need-returns-2
 returns-2 c =
     let b = c .before .before .before .before .before .args in
-    by-letter (b .s) _ (b .counts) (b .counter) (b .all) (b .c) _ (c .before .before .s2 .given .1) (c .may-nest .ensures)
+    by-letter (b .s) _ (b .counts) (b .late) (b .c) _ (c .before .before .s2 .given .1) (c .may-nest .ensures)
 
 returns-3 : tie.Need-returns-3
 returns-3 c =
     let b = c .before .before .before .before .before .before .args in
-    by-letter (b .s) _ (b .counts) (b .counter) (b .all) (b .c) _ (c .before .before .before .s3 .given .1) (stated (b .counts) _ _ _ _ (c .before .waits .ensures) (c .in-state .ensures))
+    by-letter (b .s) _ (b .counts) (b .late) (b .c) _ (c .before .before .before .s3 .given .1) (stated (b .counts) _ _ _ _ (c .before .waits .ensures) (c .in-state .ensures))
 
 returns-4 : tie.Need-returns-4
 returns-4 c =
     let b = c .before .before .before .before .before .args in
-    by-letter (b .s) _ (b .counts) (b .counter) (b .all) (b .c) _ (c .before .before .s4 .given .1) (c .may-interrupt .ensures)
+    by-letter (b .s) _ (b .counts) (b .late) (b .c) _ (c .before .before .s4 .given .1) (c .may-interrupt .ensures)
 
 returns-5 : tie.Need-returns-5
 returns-5 c =
     let b = c .before .before .before .before .before .before .args in
-    by-letter (b .s) _ (b .counts) (b .counter) (b .all) (b .c) _ (c .before .before .before .s5 .given .1) (stated (b .counts) _ _ _ _ (c .before .is-away .ensures) (c .in-state2 .ensures))
+    by-letter (b .s) _ (b .counts) (b .late) (b .c) _ (c .before .before .before .s5 .given .1) (stated (b .counts) _ _ _ _ (c .before .is-away .ensures) (c .in-state2 .ensures))
 
 returns-6 : tie.Need-returns-6
 returns-6 c =
     let b = c .before .before .before .before .before .before .args in
-    by-letter (b .s) _ (b .counts) (b .counter) (b .all) (b .c) _ (c .before .before .before .s6 .given .1) (stated (b .counts) _ _ _ _ (c .before .holds .ensures) (c .in-state3 .ensures))
+    by-letter (b .s) _ (b .counts) (b .late) (b .c) _ (c .before .before .before .s6 .given .1) (stated (b .counts) _ _ _ _ (c .before .holds .ensures) (c .in-state3 .ensures))
 
 pub judge-spec : {M : Type 1} → statement M
 judge-spec =

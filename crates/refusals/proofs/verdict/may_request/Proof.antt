@@ -23,9 +23,6 @@ is-idle-requires c κs = search needs
 returns-3 : tie.Need-returns-3
 returns-3 c = search (due, further, flipped, needs) depth 9
 
-stretched-requires : tie.Need-stretched-requires
-stretched-requires c κs = search needs
-
 returns-4 : tie.Need-returns-4
 returns-4 c = search (due, further, flipped, needs) depth 9
 
@@ -42,6 +39,5 @@ may-request-spec =
     returns-2
     is-idle-requires
     returns-3
-    stretched-requires
     returns-4
     returns-5)

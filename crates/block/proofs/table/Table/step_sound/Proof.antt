@@ -30,8 +30,11 @@ read-requires c κs = (unit-in (c .before .before .before .before .before .args 
 read-requires-2 : tie.Need-read-requires-2
 read-requires-2 c κs = (other-in (c .before .before .before .before .before .before .args .s) (coreOf (c .before .before .before .before .before .before .args .t1) (c .before .before .before .before .before .core-place .result .0)) _ (c .before .other-place .ensures), core-in (c .before .before .before .before .before .before .args .s) _ (c .before .before .before .before .before .core-place .ensures))
 
+late-requires : tie.Need-late-requires
+late-requires c κs = let s = c .before .before .before .before .before .before .before .before .before in counted (s .args .t1) (s .pre)
+
 plan-step-requires : tie.Need-plan-step-requires
-plan-step-requires c κs = let s = c .before .before .before .before .before .before .before .before .before .before in counted (s .args .t1) (s .pre)
+plan-step-requires c κs = search needs
 
 put-back-requires : tie.Need-put-back-requires
 put-back-requires c κs =
@@ -39,7 +42,7 @@ put-back-requires c κs =
     let a = s .args in
     let k = c .before .before .before .before .before .before .before .before .before .before .core-place in
     let d = coreOf (a .t1) (k .result .0) in
-    let g = granted-in (a .s) (a .t1 .counts) (a .t1 .counter) (a .t1 .cores) d _ _ _ (c .plan-step .ensures) in (
+    let g = granted-in (a .s) (a .t1 .counts) (a .t1 .counter) (c .before .late .result) d _ _ _ (c .plan-step .ensures) in (
       counted (a .t1) (s .pre),
       core-in (a .s) _ (k .ensures),
       unit-in (a .s) d _ (c .before .before .before .before .before .before .before .unit-place .ensures),
@@ -51,8 +54,8 @@ put-back-requires c κs =
 returns : tie.Need-returns
 returns c =
     let s = c .before .before .before .before .before .before .before .before .before .before .before .before in
-    in-place (s .args .t1) (s .args .s) _ _ _ _ _ _ _ (held (s .args .t1) _ (s .good .0)) (s .pre) (c .before .before .before .before .before .before .before .before .before .before .before .core-place .ensures)
-    (c .before .before .before .before .before .before .before .before .unit-place .ensures) (c .before .before .before .before .before .before .before .other-place .ensures) (c .before .before .before .before .before .before .read .ensures) (c .before .before .before .before .before .read2 .ensures) (c .before .plan-step .ensures)
+    in-place (s .args .t1) (s .args .s) _ _ _ _ _ _ _ _ (held (s .args .t1) _ (s .good .0)) (s .pre) (c .before .before .before .before .before .before .before .before .before .before .before .core-place .ensures)
+    (c .before .before .before .before .before .before .before .before .unit-place .ensures) (c .before .before .before .before .before .before .before .other-place .ensures) (c .before .before .before .before .before .before .read .ensures) (c .before .before .before .before .before .read2 .ensures) (c .before .before .late .ensures) (c .before .plan-step .ensures)
     (c .put-back .ensures)
 
 pub step-sound-spec : {M : Type 1} → statement M
@@ -67,6 +70,7 @@ step-sound-spec =
     other-place-requires
     read-requires
     read-requires-2
+    late-requires
     plan-step-requires
     put-back-requires
     returns)
