@@ -1,18 +1,18 @@
 -- What a step that is allowed says of its core, its unit and the counter.
 use Prim.Native.Nat.{_≤_, _<_}
-use mathlib.Core.Bool.{Bool, true, false, _||_, not}
+use mathlib.Core.Bool.{Bool, true, false, _&&_, _||_, not}
 use mathlib.Core.Logic.{_⊎_, inl, inr}
-use mathlib.Core.Path.{_≡_, refl}
+use mathlib.Core.Path.{_≡_, refl, sym, _∙_, ap}
 use borrow.Author.Tests.{leb-false, ltb-false, not-false}
 use Rattle.parts.specs.declared.answer.Step.the-variants.{R, N, P, I, C, L}
 use Rattle.ticket.specs.declared.kinds.CoreNo.{CoreNo}
 use Rattle.ticket.specs.declared.kinds.UnitNo.{UnitNo}
-use Rattle.parts.specs.State.{isIdle, waits, holds, holdsOne, isAway}
+use Rattle.parts.specs.State.{isIdle, waits, holds, holdsOne, isAway, isDropped}
 use Rattle.block.specs.Table.{coreOf, unitCount}
 use Rattle.block.specs.Steps.{verdict}
 use Rattle.refusals.specs.Judge.{noCore, noUnit, stretched, wrongClass}
 use Rattle.parts.specs.declared.kinds.State.{State}
-use Rattle.parts.specs.declared.kinds.State.the-variants.{Idle, Waiting, Holding, WaitingSecond, HoldingBoth, Away}
+use Rattle.parts.specs.declared.kinds.State.the-variants.{Idle, Waiting, Holding, WaitingSecond, HoldingBoth, Away, Marked, Dropped}
 use Rattle.block.specs.declared.table.Table.{Table}
 use Rattle.refusals.specs.declared.verdict.Verdict.the-variants.{Allowed}
 use Rattle.parts.proofs.Bools.{clash}
@@ -30,14 +30,18 @@ is-idle Holding e = absurd (clash e refl)
 is-idle WaitingSecond e = absurd (clash e refl)
 is-idle HoldingBoth e = absurd (clash e refl)
 is-idle Away e = absurd (clash e refl)
+is-idle Marked e = absurd (clash e refl)
+is-idle Dropped e = absurd (clash e refl)
 
-is-away : (z : State) → isAway z ≡ true → z ≡ Away
-is-away Idle e = absurd (clash e refl)
-is-away Waiting e = absurd (clash e refl)
-is-away Holding e = absurd (clash e refl)
-is-away WaitingSecond e = absurd (clash e refl)
-is-away HoldingBoth e = absurd (clash e refl)
-is-away Away e = refl
+which-away : (z : State) → isAway z ≡ true → (z ≡ Away) ⊎ (z ≡ Marked) ⊎ (z ≡ Dropped)
+which-away Idle e = absurd (clash e refl)
+which-away Waiting e = absurd (clash e refl)
+which-away Holding e = absurd (clash e refl)
+which-away WaitingSecond e = absurd (clash e refl)
+which-away HoldingBoth e = absurd (clash e refl)
+which-away Away e = inl refl
+which-away Marked e = inr (inl refl)
+which-away Dropped e = inr (inr refl)
 
 is-holding : (z : State) → holdsOne z ≡ true → z ≡ Holding
 is-holding Idle e = absurd (clash e refl)
@@ -46,6 +50,8 @@ is-holding Holding e = refl
 is-holding WaitingSecond e = absurd (clash e refl)
 is-holding HoldingBoth e = absurd (clash e refl)
 is-holding Away e = absurd (clash e refl)
+is-holding Marked e = absurd (clash e refl)
+is-holding Dropped e = absurd (clash e refl)
 
 which-waits : (z : State) → waits z ≡ true → (z ≡ Waiting) ⊎ (z ≡ WaitingSecond)
 which-waits Idle e = absurd (clash e refl)
@@ -54,6 +60,8 @@ which-waits Holding e = absurd (clash e refl)
 which-waits WaitingSecond e = inr refl
 which-waits HoldingBoth e = absurd (clash e refl)
 which-waits Away e = absurd (clash e refl)
+which-waits Marked e = absurd (clash e refl)
+which-waits Dropped e = absurd (clash e refl)
 
 which-holds : (z : State) → holds z ≡ true → (z ≡ Holding) ⊎ (z ≡ HoldingBoth)
 which-holds Idle e = absurd (clash e refl)
@@ -62,6 +70,8 @@ which-holds Holding e = inl refl
 which-holds WaitingSecond e = absurd (clash e refl)
 which-holds HoldingBoth e = inr refl
 which-holds Away e = absurd (clash e refl)
+which-holds Marked e = absurd (clash e refl)
+which-holds Dropped e = absurd (clash e refl)
 
 module _ (t : Table) (k : CoreNo) where
   pub record Requesting (u : UnitNo) : Type 0 where
@@ -123,11 +133,23 @@ module _ (t : Table) (k : CoreNo) where
       let c = unless-not (not (waits (coreOf t (k .0) .state))) _ _ (b .1) in
       (core-there (a .0), which-waits (coreOf t (k .0) .state) (not-false (waits (coreOf t (k .0) .state)) (c .0)))
 
-  pub may-come-back : verdict t (C k) ≡ Allowed → (k .0 < t .counts .cores) × (coreOf t (k .0) .state ≡ Away)
+  pub record ComingBack : Type 0 where
+    pub within : k .0 < t .counts .cores
+    pub state : (coreOf t (k .0) .state ≡ Away) ⊎ (coreOf t (k .0) .state ≡ Marked) ⊎ (coreOf t (k .0) .state ≡ Dropped)
+    pub close : coreOf t (k .0) .state ≡ Dropped → stretched (t .counter) (t .cores) (t .counts .cores) ≡ false
+
+  pub may-come-back : verdict t (C k) ≡ Allowed → ComingBack
   may-come-back e =
+      let z = coreOf t (k .0) .state in
+      let late = stretched (t .counter) (t .cores) (t .counts .cores) in
       let a = unless-not (noCore (t .counts) k) _ _ e in
-      let b = unless-not (not (isAway (coreOf t (k .0) .state))) _ _ (a .1) in
-      (core-there (a .0), is-away (coreOf t (k .0) .state) (not-false (isAway (coreOf t (k .0) .state)) (b .0)))
+      let b = unless-not (not (isAway z)) _ _ (a .1) in
+      let d = unless-not (isDropped z && late) _ _ (b .1) in
+      record {
+        within = core-there (a .0);
+        state = which-away z (not-false (isAway z) (b .0));
+        close = λ q. sym (ap (λ (y : State). isDropped y && late) q) ∙ d .0;
+      }
 
   pub may-release : verdict t (L k) ≡ Allowed → (k .0 < t .counts .cores) × ((coreOf t (k .0) .state ≡ Holding) ⊎ (coreOf t (k .0) .state ≡ HoldingBoth))
   may-release e =

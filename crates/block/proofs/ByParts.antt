@@ -16,14 +16,15 @@ use Rattle.ticket.specs.declared.kinds.CoreNo.{CoreNo}
 use Rattle.ticket.specs.declared.kinds.Ticket.{Ticket}
 use Rattle.ticket.specs.declared.kinds.UnitNo.{UnitNo}
 use Rattle.ticket.specs.declared.order.Comparison.the-variants.{Same}
-use Rattle.parts.specs.State.{isIdle, stands, twoStage, waits}
+use Rattle.parts.specs.State.{stands, twoStage, waits}
 use Rattle.parts.specs.Parts.{cores, units, blank, standing, absentUnit, registerIn, registered}
 use Rattle.parts.specs.Answer.{whose, packed}
 use Rattle.parts.specs.declared.kinds.Register.{Register}
 use Rattle.parts.specs.declared.kinds.LockUnit.{LockUnit}
 use Rattle.parts.specs.declared.kinds.Core.{Core}
 use Rattle.parts.specs.declared.kinds.Counts.{Counts}
-use Rattle.parts.specs.declared.kinds.State.the-variants.{Idle}
+use Rattle.parts.specs.declared.kinds.Profile.{Profile}
+use Rattle.parts.specs.declared.kinds.Profile.the-variants.{T, D}
 use Rattle.parts.specs.declared.answer.Answer.{Answer}
 use Rattle.parts.specs.declared.answer.Answer.the-variants.{Done, NotYet, NoCore}
 use Rattle.parts.specs.declared.answer.Grants.{Grants}
@@ -39,36 +40,37 @@ use Rattle.settling.specs.Settle.{enter, carry, changed}
 use Rattle.settling.specs.declared.settle.Change.{Change}
 use Rattle.settling.specs.declared.line.Best.{Best}
 use Rattle.settling.specs.declared.line.Best.the-variants.{Nobody}
-use Rattle.effects.specs.Effect.{makes, inherit, wait, stepEffect}
+use Rattle.effects.specs.Effect.{makes, markedAway, interrupt, goOn, inherit, wait, stepEffect}
 use Rattle.effects.specs.declared.kinds.Move.{Move}
 use Rattle.effects.specs.declared.kinds.Move.the-variants.{Enter, GiveUp}
 use Rattle.effects.specs.declared.kinds.Effect.{Effect}
-use Rattle.plan.specs.Plan.{partOf, staying, refuse, withChanges, entered, leaves, givenUp, carryOut, decided, planStep}
+use Rattle.plan.specs.Plan.{partOf, staying, refuse, withChanges, entered, leaves, givenUp, carryOut, decided, effectOf, planStep}
 use Rattle.plan.specs.declared.planning.Part.{Part}
 use Rattle.plan.specs.declared.planning.Plan.{Plan}
 use Rattle.block.specs.Table.{coreOf, unitOf, registerOf, withRegister, withCore, withCounter, Shaped}
 use Rattle.block.specs.Sound.{sound}
-use Rattle.block.specs.Steps.{late, verdict, awaited, effectOn, affected, moves, settled, performed, refusal, answered, onSound}
+use Rattle.block.specs.Steps.{late, verdict, awaited, giveUp, effectOn, affected, moves, settled, performed, refusal, answered, onSound}
 use Rattle.block.specs.PutBack.{changedAt, putBack}
 use Rattle.block.specs.declared.table.Table.{Table}
 use Rattle.block.specs.declared.stepped.Stepped.{Stepped}
-use Rattle.parts.proofs.Bools.{and-left, or-cases}
+use Rattle.parts.proofs.Bools.{and-left}
 use Rattle.parts.proofs.Ranging.{cores-few}
 use Rattle.places.proofs.Placing.{core-itself, unit-itself}
 use Rattle.block.proofs.Parts.{parts}
 use Rattle.settling.proofs.NextInLine.{stored-next}
 use Rattle.block.proofs.Almost.{Almost}
+use Rattle.block.proofs.Agreeing.{at-first}
 use Rattle.block.proofs.Columns.{sound-almost}
 use Rattle.block.proofs.Kept.{moves-almost}
 use Rattle.block.proofs.Oldest.{shown-recent, shown-apart, oldest-nobody}
-use Rattle.block.proofs.Touched.{QuietTable, settledOne, freedTwo, Settled, settledUnit, settledBy}
+use Rattle.block.proofs.Touched.{QuietTable, AllPresent, settledOne, freedTwo, Settled, settledUnit, settledBy}
 use Rattle.block.proofs.Touching.{settled-none, settled-one, settled-two}
 use Rattle.block.proofs.Settling.{there, changes, frees}
 use Rattle.block.proofs.Standing.{no-and, bare, bare-one, sound-quiet}
-use Rattle.block.proofs.Stepping.{quiet-elsewhere, oneCleared, twoCleared, first-unit, second-unit, clears-one, clears-two, one-quiet, two-quiet, waiting-stands, holding, carrying, inherited, poll-cases, same-core, awaited-second}
+use Rattle.block.proofs.Stepping.{quiet-elsewhere, oneCleared, twoCleared, first-unit, second-unit, clears-one, clears-two, one-quiet, two-quiet, waiting-stands, holding, carrying, inherited, poll-cases, come-cases, same-core, awaited-second}
 use Rattle.block.proofs.Entering.{Past, enter-settles, leave-settles, carry-settles}
-use Rattle.block.proofs.Allows.{is-idle, may-request, may-nest, may-poll, may-interrupt, may-come-back, may-release}
-use Rattle.block.proofs.Answering.{cores-in, request-in, nest-in, poll-in, interrupt-in, come-back-in, release-in}
+use Rattle.block.proofs.Allows.{ComingBack, may-request, may-nest, may-poll, may-interrupt, may-come-back, may-release}
+use Rattle.block.proofs.Answering.{past-blank, cores-in, request-in, nest-in, poll-in, come-back-in, release-in}
 
 -- What is put back
 
@@ -179,15 +181,7 @@ module _ (t : Table) (shaped : Shaped t) (ok : sound t ≡ true) (k : CoreNo) (w
   none u h = oldest-nobody t almost u h .0
 
   past : (u : ℕ) → u < units → Past n (unitOf t u)
-  past u h j l m =
-      let z = idle-past in
-      bare t (parts t ok) j m u h (no-and (stands (coreOf t j .state)) _ (ap stands z)) (no-and (twoStage (coreOf t j .state)) _ (ap twoStage z))
-    where
-      idle-past : coreOf t j .state ≡ Idle
-      idle-past =
-          is-idle (coreOf t j .state)
-          (⊎-elim (λ e. absurd (let z = ltb-true j n e in omega arith)) (λ e. e)
-          (or-cases (ltb j n) (isIdle (coreOf t j .state)) (parts t ok .core j m .within)))
+  past = past-blank t (parts t ok)
 
   -- Entering
 
@@ -198,6 +192,7 @@ module _ (t : Table) (shaped : Shaped t) (ok : sound t ≡ true) (k : CoreNo) (w
       (h : u .0 < units)
       (bare-there : registerOf t (u .0) (k .0) ≡ blank)
       (moved-almost : Almost (affected t (k .0) (makes b (Enter u q) Done q m)))
+      (present : AllPresent (affected t (k .0) (makes b (Enter u q) Done q m)))
     where
       abbrev enters : Effect
       enters = makes b (Enter u q) Done q m
@@ -211,7 +206,7 @@ module _ (t : Table) (shaped : Shaped t) (ok : sound t ≡ true) (k : CoreNo) (w
           (line-recent (affected t (k .0) enters) moved-almost (u .0) h _ z)
           (line-apart (affected t (k .0) enters) moved-almost (u .0) h _ z)
           bare-there) ∙
-          settled-one (affected t (k .0) enters) u Done q h (quiet-elsewhere t (u .0) (k .0) (standing q) (sound-quiet t (parts t ok)))
+          settled-one (affected t (k .0) enters) u Done q h (present (u .0) h) (quiet-elsewhere t (u .0) (k .0) (standing q) (sound-quiet t (parts t ok)))
 
       enter-here :
           (two : Bool) →
@@ -236,11 +231,7 @@ module _ (t : Table) (shaped : Shaped t) (ok : sound t ≡ true) (k : CoreNo) (w
 
     first-valid : registerOf t (c .first .0) (k .0) .valid ≡ true
     first-valid =
-        let r = registerOf t (c .first .0) (k .0) in
-        let same = eq-eqb (c .first .0) (c .first .0) refl in
-        let agrees = parts t ok .unit (c .first .0) first-in-table .agrees (k .0) small in
-        let shown = simp (at, same) at agrees in
-        and-left (r .valid) (eqb (r .ticket .0) (c .own .0)) (and-left (r .valid && eqb (r .ticket .0) (c .own .0)) _ shown)
+        at-first c (registerOf t (c .first .0) (k .0)) at (parts t ok .unit (c .first .0) first-in-table .agrees (k .0) small) .shows .valid
 
     left-first : bySettling t k (leaves (read t k (c .first)) k) (c .first) ≡ oneSettled t k (c .first) blank
     left-first =
@@ -268,9 +259,13 @@ module _ (t : Table) (shaped : Shaped t) (ok : sound t ≡ true) (k : CoreNo) (w
           (parts t ok .unit (c .second .0) (second-in-table .1) .oneFlag) (parts t ok .unit (c .second .0) (second-in-table .1) .next)
           (none (c .second .0) (second-in-table .1)) second-valid
 
-    module _ (b : Core) (q : Ticket) where
+    module _ (b : Core) (q : Ticket) (present : AllPresent (affected t (k .0) (makes b GiveUp Done q (t .counter)))) where
       abbrev going : Effect
       going = makes b GiveUp Done q (t .counter)
+
+      -- the same of the table where the registers are cleared one by one
+      cleared : (z : Table) → giveUp t (k .0) ≡ z → AllPresent (withCounter (withCore z (k .0) b) (t .counter))
+      cleared z e = subst (λ (y : Table). AllPresent (withCounter (withCore y (k .0) b) (t .counter))) e present
 
       leave-here :
           let i = inUnits (c .first) in
@@ -302,12 +297,17 @@ module _ (t : Table) (shaped : Shaped t) (ok : sound t ≡ true) (k : CoreNo) (w
               ap (λ (i : UnitNo). putBack t k i (inUnits (c .second)) (two-left i (inUnits (c .second)))) (unit-itself (c .first) first-in-table) ∙
               ap (λ (j : UnitNo). putBack t k (c .first) j (two-left (c .first) j)) (unit-itself (c .second) (b2 .1)) ∙
               two-put t k (c .first) (c .second) b GiveUp q (leaves (read t k (c .first)) k) (leaves (read t k (c .second)) k) (b2 .0) left-first (left-second two) ∙
-              settled-two (withCore (twoCleared t (k .0)) (k .0) b) (c .first) (c .second) Done q (b2 .0) (b2 .1) (two-quiet t (k .0) small ok at) ∙
+              settled-two (withCore (twoCleared t (k .0)) (k .0) b) (c .first) (c .second) Done q (b2 .0) (b2 .1)
+              (cleared (twoCleared t (k .0)) (clears-two t (k .0) small ok at two) (c .first .0) first-in-table)
+              (cleared (twoCleared t (k .0)) (clears-two t (k .0) small ok at two) (c .second .0) (b2 .1))
+              (two-quiet t (k .0) small ok at) ∙
               ap (λ (z : Table). settled (withCounter (withCore z (k .0) b) (t .counter)) Done q) (sym (clears-two t (k .0) small ok at two))
           go false one =
               ap (λ (i : UnitNo). putBack t k i i (one-left i)) (unit-itself (c .first) first-in-table) ∙
               one-put t k (c .first) blank b GiveUp q (t .counter) (leaves (read t k (c .first)) k) left-first ∙
-              settled-one (withCore (oneCleared t (k .0)) (k .0) b) (c .first) Done q first-in-table (one-quiet t (k .0) small ok at) ∙
+              settled-one (withCore (oneCleared t (k .0)) (k .0) b) (c .first) Done q first-in-table
+              (cleared (oneCleared t (k .0)) (clears-one t (k .0) small ok at one) (c .first .0) first-in-table)
+              (one-quiet t (k .0) small ok at) ∙
               ap (λ (z : Table). settled (withCounter (withCore z (k .0) b) (t .counter)) Done q) (sym (clears-one t (k .0) small ok at one))
 
   -- Polling: the first unit, and the one that the core waits for
@@ -344,6 +344,7 @@ module _ (t : Table) (shaped : Shaped t) (ok : sound t ≡ true) (k : CoreNo) (w
         (q : Ticket)
         (clear : registerOf t (c .second .0) (k .0) .flag ≡ false)
         (moved-almost : Almost (carrying t (k .0) q))
+        (present : AllPresent (carrying t (k .0) q))
       where
         abbrev carries : Effect
         carries = inherit (t .counter) c q
@@ -370,16 +371,17 @@ module _ (t : Table) (shaped : Shaped t) (ok : sound t ≡ true) (k : CoreNo) (w
             let l = second-there .0 in
             ap (λ (us : List LockUnit). ended t k us carries None) (other-stays n k (t .units) (c .first .0) (c .second .0) _ (λ d. omega arith)) ∙
             changes t (k .0) (carries .core) (c .second) (standing q) NotYet q _ carry-is ∙
-            settled-one (carrying t (k .0) q) (c .second) NotYet q (second-there .1)
+            settled-one (carrying t (k .0) q) (c .second) NotYet q (second-there .1) (present (c .second .0) (second-there .1))
             (quiet-elsewhere t (c .second .0) (k .0) (standing q) quiet-all)
 
     polls :
         Almost (affected t (k .0) (effectOn t (P k))) →
+        AllPresent (affected t (k .0) (effectOn t (P k))) →
         polled (effectOn t (P k)) ≡ settled (affected t (k .0) (effectOn t (P k))) (effectOn t (P k) .answer) (effectOn t (P k) .ticket)
     polls =
-        poll-cases t k (λ (e : Effect). Almost (affected t (k .0) e) → polled e ≡ settled (affected t (k .0) e) (e .answer) (e .ticket))
-        (λ flag a. settled-none (holding t (k .0)) _ _ quiet-all)
-        (λ flag two a.
+        poll-cases t k (λ (e : Effect). Almost (affected t (k .0) e) → AllPresent (affected t (k .0) e) → polled e ≡ settled (affected t (k .0) e) (e .answer) (e .ticket))
+        (λ flag a here. settled-none (holding t (k .0)) _ _ quiet-all)
+        (λ flag two a here.
         let q = inherited t c in
         let e = inherit (t .counter) c q in
         let at-second : awaited c ≡ c .second .0 = ap (λ (b : Bool). cond b (c .second .0) (c .first .0)) two in
@@ -388,34 +390,61 @@ module _ (t : Table) (shaped : Shaped t) (ok : sound t ≡ true) (k : CoreNo) (w
         putBack t k (c .first) (record { 0 = v })
         (withChanges e (staying (read t k (c .first))) (carry (unitOf t v .next) k q) None true))
         at-second ∙
-        carried-on two q (awaited-second t (k .0) two flag) a)
-        (λ flag one a.
+        carried-on two q (awaited-second t (k .0) two flag) a here)
+        (λ flag one a here.
         settled-none (affected t (k .0) (wait (t .counter) c)) _ _ (subst QuietTable (sym (same-core t (k .0))) quiet-all))
 
     -- what is read at the places is what the step reads
     poll-here :
         Almost (moves t (P k)) →
+        AllPresent (moves t (P k)) →
         let i = inUnits (c .first) in
         let j = cond (twoStage (c .state)) (inUnits (c .second)) (inUnits (c .first)) in
         putBack t k i j
-        (carryOut (stepEffect (P k) (t .counter) c (read t k j .register .flag) (stored (read t k i .next))) k c (read t k i) (read t k j)) ≡
+        (carryOut (stepEffect (t .counts .profile) (P k) (t .counter) c (read t k j .register .flag) (stored (read t k i .next))) k c (read t k i) (read t k j)) ≡
         performed t (P k)
-    poll-here a =
+    poll-here a here =
         ap
         (λ (i : UnitNo).
         let j = cond (twoStage (c .state)) (inUnits (c .second)) (inUnits (c .first)) in
         putBack t k i j
-        (carryOut (stepEffect (P k) (t .counter) c (read t k j .register .flag) (stored (read t k i .next))) k c (read t k i) (read t k j)))
+        (carryOut (stepEffect (t .counts .profile) (P k) (t .counter) c (read t k j .register .flag) (stored (read t k i .next))) k c (read t k i) (read t k j)))
         (unit-itself (c .first) first-there) ∙
         ap
         (λ (j : UnitNo).
         putBack t k (c .first) j
-        (carryOut (stepEffect (P k) (t .counter) c (read t k j .register .flag) (stored (read t k (c .first) .next))) k c (read t k (c .first)) (read t k j)))
+        (carryOut (stepEffect (t .counts .profile) (P k) (t .counter) c (read t k j .register .flag) (stored (read t k (c .first) .next))) k c (read t k (c .first)) (read t k j)))
         awaited-place ∙
         ap
-        (λ (b : Best). polled (stepEffect (P k) (t .counter) c (registerOf t (awaited c) (k .0) .flag) b))
+        (λ (b : Best). polled (stepEffect (t .counts .profile) (P k) (t .counter) c (registerOf t (awaited c) (k .0) .flag) b))
         (stored-next cores (unitOf t (c .first .0)) (parts t ok .unit (c .first .0) first-there .next) (omega arith)) ∙
-        polls a
+        polls a here
+
+    -- Interrupting: in T the core leaves; in D it leaves if its flag is set, and else it only is marked
+    interrupt-here :
+        AllPresent (moves t (I k)) →
+        let i = inUnits (c .first) in
+        let j = cond (twoStage (c .state)) (inUnits (c .second)) (inUnits (c .first)) in
+        putBack t k i j (carryOut (interrupt (t .counts .profile) (t .counter) c (read t k j .register .flag)) k c (read t k i) (read t k j)) ≡
+        performed t (I k)
+    interrupt-here present =
+        ap (λ (f : Bool). interrupted (interrupt (t .counts .profile) (t .counter) c f)) (ap (λ (u : UnitNo). registerOf t (u .0) (k .0) .flag) awaited-place) ∙
+        go (t .counts .profile) (registerOf t (awaited c) (k .0) .flag) present
+      where
+        interrupted : Effect → Stepped
+        interrupted e =
+            let i = inUnits (c .first) in
+            let j = cond (twoStage (c .state)) (inUnits (c .second)) (inUnits (c .first)) in
+            putBack t k i j (carryOut e k c (read t k i) (read t k j))
+
+        go :
+            (p : Profile) (f : Bool) →
+            let e = interrupt p (t .counter) c f in
+            AllPresent (affected t (k .0) e) →
+            interrupted e ≡ settled (affected t (k .0) e) (e .answer) (e .ticket)
+        go T f here = leave-here waits-at _ _ here
+        go D true here = leave-here waits-at _ _ here
+        go D false here = settled-none (affected t (k .0) (markedAway (t .counter) c)) _ _ quiet-all
 
 -- The step whole
 
@@ -427,7 +456,7 @@ whole t s k v =
     let j = otherPlace s c in
     let x = partOf (k .0) (unitOf t (i .0)) in
     let y = partOf (k .0) (unitOf t (j .0)) in
-    putBack t k i j (decided v (t .counter) c x y (carryOut (stepEffect s (t .counter) c (y .register .flag) (stored (x .next))) k c x y))
+    putBack t k i j (decided v (t .counter) c x y (carryOut (effectOf s (t .counts) (t .counter) c x y) k c x y))
 
 off : (b : Bool) (v : Verdict) → b ≡ true → unless b NoCore v ≡ Refused NoCore
 off true v e = refl
@@ -447,37 +476,66 @@ nowhere :
     stands (coreOf t k .state) ≡ false → twoStage (coreOf t k .state) ≡ false → registerOf t u k ≡ blank
 nowhere t ok k u h l a b = bare t (parts t ok) k h u l (no-and _ _ a) (no-and _ _ b)
 
-allowed : (t : Table) (shaped : Shaped t) (ok : sound t ≡ true) (s : Step) → verdict t s ≡ Allowed → whole t s (whose s) Allowed ≡ performed t s
-allowed t shaped ok (R k u) may =
+allowed :
+    (t : Table) (shaped : Shaped t) (ok : sound t ≡ true) (s : Step) → verdict t s ≡ Allowed → AllPresent (moves t s) →
+    whole t s (whose s) Allowed ≡ performed t s
+allowed t shaped ok (R k u) may here =
     let r = may-request t k u may in
     let i = request-in t k ok u may in
     enter-here t shaped ok k (r .within) u _ (t .counter) _ (i .1)
     (nowhere t ok (k .0) (u .0) (i .0) (i .1) (ap stands (r .state)) (ap twoStage (r .state)))
-    (moves-almost t shaped (parts t ok) (R k u) may)
+    (moves-almost t shaped (parts t ok) (R k u) may) here
     (twoStage (coreOf t (k .0) .state)) (ap twoStage (r .state))
-allowed t shaped ok (N k u) may =
+allowed t shaped ok (N k u) may here =
     let r = may-nest t k u may in
     let i = nest-in t k ok u may in
     enter-here t shaped ok k (r .within) u _ (coreOf t (k .0) .own) (t .counter) (i .1)
     (bare-one t (parts t ok) (k .0) (i .0) (ap twoStage (r .state)) (u .0) (i .1) (λ e. omega arith))
-    (moves-almost t shaped (parts t ok) (N k u) may)
+    (moves-almost t shaped (parts t ok) (N k u) may) here
     (twoStage (coreOf t (k .0) .state)) (ap twoStage (r .state))
-allowed t shaped ok (P k) may =
-    poll-here t shaped ok k (may-poll t k may .0) (poll-in t k ok may .1) (moves-almost t shaped (parts t ok) (P k) may)
-allowed t shaped ok (I k) may = leave-here t shaped ok k (may-interrupt t k may .0) (interrupt-in t k ok may .1) _ _
-allowed t shaped ok (C k) may =
-    let r = may-come-back t k may in
-    let i = come-back-in t k ok may in
-    enter-here t shaped ok k (r .0) (coreOf t (k .0) .first) _ (coreOf t (k .0) .own) (t .counter) (i .1)
-    (nowhere t ok (k .0) (coreOf t (k .0) .first .0) (i .0) (i .1) (ap stands (r .1)) (ap twoStage (r .1)))
-    (moves-almost t shaped (parts t ok) (C k) may)
-    (twoStage (coreOf t (k .0) .state)) (ap twoStage (r .1))
-allowed t shaped ok (L k) may = leave-here t shaped ok k (may-release t k may .0) (release-in t k ok may .1) _ _
+allowed t shaped ok (P k) may here =
+    poll-here t shaped ok k (may-poll t k may .0) (poll-in t k ok may .1) (moves-almost t shaped (parts t ok) (P k) may) here
+allowed t shaped ok (I k) may here =
+    let r = may-interrupt t k may in
+    interrupt-here t shaped ok k (r .0) (⊎-elim (λ e. ap waits e) (λ e. ap waits e) (r .1)) here
+allowed t shaped ok (C k) may here =
+    come-cases (t .counter) c Comes
+    (λ e almost present.
+    enter-here t shaped ok k (r .within) (c .first) _ (c .own) (t .counter) (i .1) (bare-there (ap stands e) (ap twoStage e)) almost present
+    (twoStage (c .state)) (ap twoStage e))
+    (λ e almost present. settled-none (affected t (k .0) (goOn (t .counter) c)) _ _ (sound-quiet t (parts t ok)))
+    (λ e almost present.
+    enter-here t shaped ok k (r .within) (c .first) _ (t .counter) _ (i .1) (bare-there (ap stands e) (ap twoStage e)) almost present
+    (twoStage (c .state)) (ap twoStage e))
+    (r .state) (moves-almost t shaped (parts t ok) (C k) may) here
+  where
+    c : Core
+    c = coreOf t (k .0)
+
+    r : ComingBack t k
+    r = may-come-back t k may
+
+    i : (k .0 < cores) × (c .first .0 < units)
+    i = come-back-in t k ok may
+
+    bare-there : stands (c .state) ≡ false → twoStage (c .state) ≡ false → registerOf t (c .first .0) (k .0) ≡ blank
+    bare-there = nowhere t ok (k .0) (c .first .0) (i .0) (i .1)
+
+    Comes : Effect → Type 0
+    Comes e =
+        Almost (affected t (k .0) e) →
+        AllPresent (affected t (k .0) e) →
+        let i = inUnits (c .first) in
+        let j = cond (twoStage (c .state)) (inUnits (c .second)) (inUnits (c .first)) in
+        putBack t k i j (carryOut e k c (partOf (k .0) (unitOf t (i .0))) (partOf (k .0) (unitOf t (j .0)))) ≡
+        settled (affected t (k .0) e) (e .answer) (e .ticket)
+allowed t shaped ok (L k) may here = leave-here t shaped ok k (may-release t k may .0) (release-in t k ok may .1) _ _ here
 
 pub by-parts :
     (t : Table) (s : Step) →
     Shaped t →
     sound t ≡ true →
+    (verdict t s ≡ Allowed → AllPresent (moves t s)) →
     let k = corePlace s in
     let c = coreOf t (k .0) in
     let i = unitPlace s c in
@@ -486,7 +544,7 @@ pub by-parts :
     (planStep s (t .counts) (t .counter) (late t) c (partOf (k .0) (unitOf t (i .0))) (partOf (k .0) (unitOf t (j .0)))) ≡
     onSound t s
 unfolding planStep onSound
-by-parts t s shaped ok = go (ltb (whose s .0) cores) refl
+by-parts t s shaped ok present = go (ltb (whose s .0) cores) refl
   where
     put-back : (k : CoreNo) (a : Answer) → whole t s k (Refused a) ≡ refusal t a
     put-back k a =
@@ -495,7 +553,7 @@ by-parts t s shaped ok = go (ltb (whose s .0) cores) refl
         nothing t k i j a (partOf (k .0) (unitOf t (i .0))) (partOf (k .0) (unitOf t (j .0)))
 
     judged : (v : Verdict) → verdict t s ≡ v → whole t s (whose s) v ≡ answered t v (performed t s)
-    judged Allowed e = allowed t shaped ok s e
+    judged Allowed e = allowed t shaped ok s e (present e)
     judged (Refused a) e = put-back (whose s) a
 
     go :

@@ -14,7 +14,8 @@ use Rattle.ticket.specs.declared.kinds.UnitNo.{UnitNo}
 use Rattle.ticket.specs.declared.order.Comparison.the-variants.{Same}
 use Rattle.ticket.proofs.Laws.{compared, told, swapped}
 use Rattle.parts.specs.Fold.{some, one}
-use Rattle.parts.specs.State.{isIdle, twoStage, unserved}
+use Rattle.parts.specs.State.{isIdle, isLive, twoStage, unserved}
+use Rattle.parts.specs.Profile.{suits}
 use Rattle.parts.specs.Parts.{cores, units, core}
 use Rattle.block.specs.Table.{coreOf, unitOf, registerOf, Shaped}
 use Rattle.settling.specs.Line.{flags}
@@ -34,11 +35,12 @@ use Rattle.parts.proofs.Folds.{some-at, at-some, count-change}
 use Rattle.parts.proofs.Along.{same-or-not}
 use Rattle.parts.proofs.Ranging.{cores-few}
 use Rattle.block.proofs.Almost.{Almost}
+use Rattle.block.proofs.Suited.{live-busy, live-undropped}
 use Rattle.block.proofs.Moving.{Moved, affected-moved, shown, affected-shown, shown-flag}
 
 -- two cores that are live have own tickets that do not compare the same
 abbrev pub Apart : Core → Core → Type 0
-Apart c d = isIdle (c .state) ≡ false → isIdle (d .state) ≡ false → compare (c .own .0) (d .own .0) ≢ Same
+Apart c d = isLive (c .state) ≡ true → isLive (d .state) ≡ true → compare (c .own .0) (d .own .0) ≢ Same
 
 pub apart-sym : (c d : Core) → Apart c d → Apart d c
 apart-sym c d a p q e = a q p (swapped (d .own .0) (c .own .0) ∙ ap turned e)
@@ -48,21 +50,24 @@ module _ (t : Table) (i j : ℕ) where
   differ-apart d h p q e =
       let a = coreOf t i .own .0 in
       let b = coreOf t j .own .0 in
-      clash h (simp (ne-eqb i j d, p, q, eq-eqb (behind a b) 0 (told a b Same e)))
+      clash h (none _ _ _ _ (ne-eqb i j d) p q (eq-eqb (behind a b) 0 (told a b Same e)))
+    where
+      none : (a b c d : Bool) → a ≡ false → b ≡ true → c ≡ true → d ≡ true → (a || not b || not c || not d) ≡ false
+      none a b c d p q r s = rw (p, q, r, s)
 
   pub apart-differ : (i ≢ j → Apart (coreOf t i) (coreOf t j)) → S.differ t i j ≡ true
   apart-differ a = go (same-or-not i j)
     where
-      last : (b c d : Bool) → (b ≡ false → c ≡ false → d ≡ false) → (b || c || not d) ≡ true
-      last true c d f = refl
-      last false true d f = refl
-      last false false d f = ap not (f refl refl)
+      last : (b c d : Bool) → (b ≡ true → c ≡ true → d ≡ false) → (not b || not c || not d) ≡ true
+      last false c d f = refl
+      last true false d f = refl
+      last true true d f = ap not (f refl refl)
 
       go : (i ≡ j) ⊎ (i ≢ j) → S.differ t i j ≡ true
       go (inl e) = simp (eq-eqb i j e)
       go (inr d) =
           simp (ne-eqb i j d)
-          (last (isIdle (coreOf t i .state)) (isIdle (coreOf t j .state)) _
+          (last (isLive (coreOf t i .state)) (isLive (coreOf t j .state)) _
           (λ p q. ne-eqb (behind (coreOf t i .own .0) (coreOf t j .own .0)) 0 (λ z. a d p q (compared (coreOf t i .own .0) (coreOf t j .own .0) Same z))))
 
 -- core d lends its ticket to c
@@ -140,7 +145,9 @@ sound-almost t s =
 
 -- what the column of core k shows after the effect e is sound
 pub record Column (t : Table) (k : ℕ) (e : Effect) : Type 0 where
+  pub suited : S.suited t (e .core) ≡ true
   pub idleBlank : S.idleBlank (e .core) ≡ true
+  pub droppedBlank : S.droppedBlank (e .core) ≡ true
   pub named : S.named t (e .core) ≡ true
   pub recent : S.recent (affected t k e) (e .core) ≡ true
   pub othersRecent : (j : ℕ) → j < cores → S.recent (affected t k e) (coreOf t j) ≡ true
@@ -196,7 +203,9 @@ module _ (t : Table) (shaped : Shaped t) (s : Sound t) (k : ℕ) (within : k < t
     column-core =
         record {
           within = rw (m .counts) (or-left _ (lt-ltb k (t .counts .cores) within));
+          suited = rw (m .becomes, m .counts) (col .suited);
           idleBlank = rw (m .becomes) (col .idleBlank);
+          droppedBlank = rw (m .becomes) (col .droppedBlank);
           named = rw (m .becomes, m .counts) (col .named);
           recent = rw (m .becomes) (col .recent);
           differ = λ j h.
@@ -211,7 +220,9 @@ module _ (t : Table) (shaped : Shaped t) (s : Sound t) (k : ℕ) (within : k < t
         let x = s .core j h in
         record {
           within = rw (m .counts, m .others j d) (x .within);
+          suited = rw (m .others j d, m .counts) (x .suited);
           idleBlank = rw (m .others j d) (x .idleBlank);
+          droppedBlank = rw (m .others j d) (x .droppedBlank);
           named = rw (m .others j d, m .counts) (x .named);
           recent = rw (m .others j d) (col .othersRecent j h);
           differ = λ i l. apart-differ t' j i (λ e. go i l e (same-or-not i k));
@@ -249,8 +260,9 @@ staying t k n v z d = makes (stays (coreOf t k) n v z) d Done n (t .counter)
 
 -- and its column
 pub record Staying (t : Table) (k : ℕ) (n : Ticket) (v : UnitNo) (z : State) (d : Move) : Type 0 where
-  pub was : isIdle (coreOf t k .state) ≡ false
-  pub live : isIdle z ≡ false
+  pub was : isLive (coreOf t k .state) ≡ true
+  pub live : isLive z ≡ true
+  pub suited : suits (t .counts .profile) z ≡ true
   pub named : S.names t (stays (coreOf t k) n v z) (twoStage z) ≡ true
   pub carries : S.carries (affected t k (staying t k n v z d)) (stays (coreOf t k) n v z) ≡ true
   pub lends : (j : ℕ) → j < cores → j ≢ k → twoStage (coreOf t j .state) ≡ true → Lends (coreOf t j) (coreOf t k) → unserved z ≡ true
@@ -264,12 +276,18 @@ stayed t shaped s k within n v z d y =
     let small = small t shaped s k within in
     column-changed t shaped s k within (staying t k n v z d)
     (record {
-      idleBlank = simp (y .live);
+      suited = y .suited;
+      idleBlank = or-left _ (ap not (live-busy z (y .live)));
+      droppedBlank = or-left _ (ap not (live-undropped z (y .live)));
       named = or-right (isIdle z) (y .named);
-      recent = or-right (isIdle z) (simp (y .was) at (s .core k small .recent));
+      recent = or-right (not (isLive z)) (so (isLive (coreOf t k .state)) _ (y .was) (s .core k small .recent));
       othersRecent = λ j h. s .core j h .recent;
       apart = λ j h d p. differ-apart t k j (λ e. d (sym e)) (s .core k small .differ j h) (y .was);
       carries = y .carries;
       lends = λ j h d two l. record { unserved = y .lends j h d two l; first = l .first; own = l .own };
       agrees = y .agrees;
     })
+  where
+    so : (b h : Bool) → b ≡ true → (not b || h) ≡ true → h ≡ true
+    so true h e p = p
+    so false h e p = absurd (clash e refl)

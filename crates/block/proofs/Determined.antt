@@ -4,6 +4,7 @@ use Rattle.ticket.specs.Determined.{Determines}
 use Rattle.block.proofs.table.Table.sound.Reads as sound
 use Rattle.block.proofs.table.Table.step.Reads as step
 use Rattle.block.proofs.table.Table.step_sound.Reads as step-sound
+use Rattle.block.proofs.table.Table.skipped.Reads as skipped
 use Rattle.block.proofs.table.Table.request.Reads as request
 use Rattle.block.proofs.table.Table.nest.Reads as nest
 use Rattle.block.proofs.table.Table.poll.Reads as poll
@@ -53,3 +54,6 @@ unit-with-determined κs a x y s t p q = p ∙ sym q
 
 pub gathered-determined : Determines gathered.Post
 gathered-determined κs a x y s t p q = p ∙ sym q
+
+pub skipped-determined : Determines skipped.Post
+skipped-determined κs a x y s t p q = p ∙ sym q

@@ -1,6 +1,6 @@
 -- A step by the calls that work it: its places lie in the arrays, and the plan of what is read there, put back, is the step.
 use Prim.Native.Nat.{ℕ, _≤_, _<_}
-use mathlib.Core.Bool.{Bool, true}
+use mathlib.Core.Bool.{Bool, true, false}
 use mathlib.Core.List.{List}
 use mathlib.Core.Path.{_≡_, sym, _∙_, ap, subst}
 use Rattle.ticket.specs.declared.kinds.CoreNo.{CoreNo}
@@ -22,12 +22,14 @@ use Rattle.block.specs.Table.{coreOf, unitOf, Shaped}
 use Rattle.block.specs.Sound.{sound}
 use Rattle.block.specs.Steps.{late, onSound}
 use Rattle.block.specs.PutBack.{putBack}
+use Rattle.block.specs.Skipping.{skips}
 use Rattle.block.specs.declared.table.Table.{Table}
 use Rattle.block.specs.declared.stepped.Stepped.{Stepped}
 use Rattle.parts.proofs.Ranging.{cores-few}
 use Rattle.places.proofs.Placing.{core-place-within, unit-place-within, other-place-within}
 use Rattle.block.proofs.Parts.{parts}
 use Rattle.block.proofs.ByParts.{by-parts}
+use Rattle.block.proofs.Presence.{moves-present}
 
 pub core-in : (s : Step) (k : CoreNo) → k ≡ corePlace s → k .0 < cores
 core-in s k e = rw e (core-place-within s)
@@ -51,26 +53,26 @@ granted-in s n m late c x y p e =
 
 -- what 15 asks, answered of the cores' tickets apart
 pub late-in :
-    (t : Table) (s : Step) (ls : List Bool) (os : List ℕ) (b : Bool) →
+    (t : Table) (s : Step) (c : Core) (ls : List Bool) (os : List ℕ) (b : Bool) →
     ls ≡ livesOf (t .cores) →
     os ≡ ownsOf (t .cores) →
-    b ≡ asked s (stretchedBy (t .counter) ls os (t .counts .cores)) →
-    b ≡ asked s (late t)
-late-in t s ls os b el eo e = e ∙ ap (asked s) (rw (el, eo) (stretched-apart (t .counter) (t .cores) (t .counts .cores)))
+    b ≡ asked s c (stretchedBy (t .counter) ls os (t .counts .cores)) →
+    b ≡ asked s c (late t)
+late-in t s c ls os b el eo e = e ∙ ap (asked s c) (rw (el, eo) (stretched-apart (t .counter) (t .cores) (t .counts .cores)))
 
 pub in-place :
     (t : Table) (s : Step) (k : CoreNo) (i j : UnitNo) (x y : Part) (b : Bool) (p : Plan) (r : Stepped) →
     Shaped t →
-    sound t ≡ true →
+    (sound t ≡ true) × (skips t s ≡ false) →
     k ≡ corePlace s →
     i ≡ unitPlace s (coreOf t (k .0)) →
     j ≡ otherPlace s (coreOf t (k .0)) →
     x ≡ partOf (k .0) (unitOf t (i .0)) →
     y ≡ partOf (k .0) (unitOf t (j .0)) →
-    b ≡ asked s (late t) →
+    b ≡ asked s (coreOf t (k .0)) (late t) →
     p ≡ planStep s (t .counts) (t .counter) b (coreOf t (k .0)) x y →
     r ≡ putBack t k i j p →
     r ≡ onSound t s
 in-place t s k i j x y b p r shaped ok ek ei ej ex ey eb ep er =
     let so = ep ∙ ap (λ (b : Bool). planStep s (t .counts) (t .counter) b (coreOf t (k .0)) x y) eb ∙ plan-asked s (t .counts) (t .counter) (late t) (coreOf t (k .0)) x y in
-    er ∙ rw (so, ey, ex, ej, ei, ek) (by-parts t s shaped ok)
+    er ∙ rw (so, ey, ex, ej, ei, ek) (by-parts t s shaped (ok .0) (λ may. moves-present t s shaped (ok .0) may (ok .1)))

@@ -1,9 +1,9 @@
 -- Each allowed step, before settling, leaves a table that is sound but for flags to be set. It changes one column: what the core
 -- shows at its units agrees with its new state, and whoever carries its ticket still may.
 use Prim.Native.Nat.{ℕ, _+_, _<_, _≤_}
-use mathlib.Core.Bool.{Bool, true, false, cond, _&&_, _||_}
+use mathlib.Core.Bool.{Bool, true, false, cond, _&&_, _||_, not}
 use mathlib.Core.Logic.{_⊎_, inl, inr, ⊎-elim, _≢_}
-use mathlib.Core.Path.{_≡_, refl, sym, ap}
+use mathlib.Core.Path.{_≡_, refl, sym, _∙_, ap}
 use native.Mathlib.Omega.{arith}
 use lib.Dec.{eqb, ltb, leb}
 use borrow.Author.Tests.{eqb-true, eq-eqb, ne-eqb, ltb-true, lt-ltb, leb-true, le-leb}
@@ -14,28 +14,30 @@ use Rattle.ticket.specs.declared.kinds.UnitNo.{UnitNo}
 use Rattle.ticket.specs.declared.order.Comparison.{Comparison}
 use Rattle.ticket.specs.declared.order.Comparison.the-variants.{Older, Younger, Same, Opposite}
 use Rattle.parts.specs.Answer.{whose}
-use Rattle.parts.specs.Fold.{some}
-use Rattle.parts.specs.State.{isIdle, stands, holdsFirst, twoStage, unserved}
+use Rattle.parts.specs.State.{isIdle, isLive, isMarked, isDropped, stands, holdsFirst, twoStage, unserved}
+use Rattle.parts.specs.Profile.{suits}
 use Rattle.parts.specs.Parts.{cores, units, unitNo, standing, core}
 use Rattle.parts.specs.declared.answer.Step.{Step}
 use Rattle.parts.specs.declared.answer.Step.the-variants.{R, N, P, I, C, L}
 use Rattle.parts.specs.declared.kinds.Core.{Core}
+use Rattle.parts.specs.declared.kinds.Profile.{Profile}
+use Rattle.parts.specs.declared.kinds.Profile.the-variants.{T, D}
 use Rattle.parts.specs.declared.kinds.Register.{Register}
 use Rattle.parts.specs.declared.kinds.State.{State}
-use Rattle.parts.specs.declared.kinds.State.the-variants.{Idle, Waiting, Holding, WaitingSecond, HoldingBoth, Away}
+use Rattle.parts.specs.declared.kinds.State.the-variants.{Idle, Waiting, Holding, WaitingSecond, HoldingBoth, Away, Marked, Dropped}
 use Rattle.settling.specs.Line.{inLine, next}
 use Rattle.settling.specs.declared.line.Best.{Best}
 use Rattle.settling.specs.declared.line.Best.the-variants.{Nobody, Won}
 use Rattle.refusals.specs.Judge.{far, old, stretched}
 use Rattle.soundness.specs.Sound.{halfBehind, readsOlder}
 use Rattle.refusals.specs.declared.verdict.Verdict.the-variants.{Allowed}
-use Rattle.effects.specs.Effect.{request, release, heritable, heir}
+use Rattle.effects.specs.Effect.{request, release, countsDropped, markedAway, interrupt, enterAgain, goOn, heritable, heir}
 use Rattle.effects.specs.declared.kinds.Move.the-variants.{Stay, Enter, Carry, GiveUp}
 use Rattle.effects.specs.declared.kinds.Effect.{Effect}
 use Rattle.block.specs.Table.{coreOf, unitOf, registerOf, unitCount, Shaped}
 use Rattle.block.specs.Sound as S
 use Rattle.block.specs.Parts.{Sound}
-use Rattle.block.specs.Steps.{verdict, effectOn, affected, moves}
+use Rattle.block.specs.Steps.{verdict, awaited, effectOn, affected, moves}
 use Rattle.block.specs.declared.table.Table.{Table}
 use Rattle.ticket.proofs.Laws.{seen, told, never-opposite}
 use Rattle.ticket.proofs.Circle.{behind-leads, behind-only, behind-self}
@@ -43,11 +45,12 @@ use Rattle.parts.proofs.Along.{same-or-not}
 use Rattle.parts.proofs.Bools.{and-left, and-right, and-both, or-left, or-right, or-cases, clash}
 use Rattle.parts.proofs.Folds.{at-some, some-none, count-unique}
 use Rattle.settling.proofs.Picking.{next-won}
-use Rattle.block.proofs.Allows.{may-request, may-nest, may-poll, may-come-back, may-interrupt, may-release}
-use Rattle.block.proofs.Standing.{units-few}
-use Rattle.block.proofs.Stepping.{holding, carrying, inherited, poll-moves}
+use Rattle.block.proofs.Allows.{ComingBack, may-request, may-nest, may-poll, may-come-back, may-interrupt, may-release}
+use Rattle.block.proofs.Standing.{units-few, no-and, bare}
+use Rattle.block.proofs.Stepping.{holding, carrying, inherited, come-cases, poll-moves}
 use Rattle.block.proofs.Almost.{Almost}
-use Rattle.block.proofs.Agreeing.{shows, in-line-at}
+use Rattle.block.proofs.Agreeing.{at-first, in-line-at}
+use Rattle.block.proofs.Suited.{live-busy, stands-live, two-in-T, single-in-D, two-undropped, suits-idle, suits-waiting, suits-holding, suits-T, suits-D, none-second}
 use Rattle.block.proofs.Moving.{Moved, entered, affected-shaped, affected-moved}
 use Rattle.block.proofs.Columns.{lending, lenders-others, sound-few, sound-almost, small, column-changed, stays, staying, stayed}
 
@@ -121,26 +124,30 @@ module _ (n x : ℕ) where
 
 -- a live core's own ticket lies in the window behind the counter
 module _ (t : Table) (c : Core) where
-  pub recent-window : isIdle (c .state) ≡ false → S.recent t c ≡ true → Window (t .counter .0) (c .own .0)
-  recent-window live h = half-window (t .counter .0) (c .own .0) (simp live at h)
-
-  window-recent : (isIdle (c .state) ≡ false → Window (t .counter .0) (c .own .0)) → S.recent t c ≡ true
-  window-recent w = go (isIdle (c .state)) w
+  pub recent-window : isLive (c .state) ≡ true → S.recent t c ≡ true → Window (t .counter .0) (c .own .0)
+  recent-window live h = half-window (t .counter .0) (c .own .0) (go (isLive (c .state)) _ live h)
     where
-      go : (b : Bool) → (b ≡ false → Window (t .counter .0) (c .own .0)) → (b || halfBehind (compare (c .own .0) (t .counter .0))) ≡ true
-      go true w = refl
-      go false w = window-half (t .counter .0) (c .own .0) (w refl)
+      go : (b p : Bool) → b ≡ true → (not b || p) ≡ true → p ≡ true
+      go true p e q = q
+      go false p e q = absurd (clash e refl)
+
+  window-recent : (isLive (c .state) ≡ true → Window (t .counter .0) (c .own .0)) → S.recent t c ≡ true
+  window-recent w = go (isLive (c .state)) w
+    where
+      go : (b : Bool) → (b ≡ true → Window (t .counter .0) (c .own .0)) → (not b || halfBehind (compare (c .own .0) (t .counter .0))) ≡ true
+      go false w = refl
+      go true w = window-half (t .counter .0) (c .own .0) (w refl)
 
 pub live-window :
     (t : Table) →
     Sound t →
     (j : ℕ) →
     j < cores →
-    isIdle (coreOf t j .state) ≡ false →
+    isLive (coreOf t j .state) ≡ true →
     Window (t .counter .0) (coreOf t j .own .0)
 live-window t s j h live = recent-window t (coreOf t j) live (s .core j h .recent)
 
--- a live core is one of the table's
+-- a core that is not idle is one of the table's
 pub live-within : (t : Table) → Sound t → (j : ℕ) → j < cores → isIdle (coreOf t j .state) ≡ false → j < t .counts .cores
 live-within t s j h live =
     ⊎-elim (ltb-true j (t .counts .cores)) (λ e. absurd (clash e live)) (or-cases (ltb j (t .counts .cores)) _ (s .core j h .within))
@@ -152,10 +159,16 @@ pub live-close :
     stretched (t .counter) (t .cores) (t .counts .cores) ≡ false →
     (j : ℕ) →
     j < cores →
-    isIdle (coreOf t j .state) ≡ false →
+    isLive (coreOf t j .state) ≡ true →
     behind (t .counter .0) (coreOf t j .own .0) < half
 live-close t s close j h live =
-    near (t .counter .0) (coreOf t j .own .0) (simp live at (some-none (λ (i : ℕ). old (t .counter) (coreOf t i)) (t .counts .cores) close j (live-within t s j h live)))
+    near (t .counter .0) (coreOf t j .own .0)
+    (go (isLive (coreOf t j .state)) _ live
+    (some-none (λ (i : ℕ). old (t .counter) (coreOf t i)) (t .counts .cores) close j (live-within t s j h (live-busy (coreOf t j .state) live))))
+  where
+    go : (b p : Bool) → b ≡ true → (b && p) ≡ false → p ≡ false
+    go true p e q = q
+    go false p e q = absurd (clash e refl)
 
 -- so the counter may move: the ticket lies one further behind it
 next-window : (n x : ℕ) → behind n x < half → Window (after n) x
@@ -192,7 +205,9 @@ cond-else true x y y' f h = h
 cond-else false x y y' f h = f h
 
 pub record TwoStage (z : State) : Type 0 where
-  pub live : isIdle z ≡ false
+  pub live : isLive z ≡ true
+  pub busy : isIdle z ≡ false
+  pub marked : isMarked z ≡ false
   pub stands : stands z ≡ true
   pub first : holdsFirst z ≡ true
 
@@ -200,9 +215,11 @@ pub two-stage : (z : State) → twoStage z ≡ true → TwoStage z
 two-stage Idle e = absurd (clash e refl)
 two-stage Waiting e = absurd (clash e refl)
 two-stage Holding e = absurd (clash e refl)
-two-stage WaitingSecond e = record { live = refl; stands = refl; first = refl }
-two-stage HoldingBoth e = record { live = refl; stands = refl; first = refl }
+two-stage WaitingSecond e = record { live = refl; busy = refl; marked = refl; stands = refl; first = refl }
+two-stage HoldingBoth e = record { live = refl; busy = refl; marked = refl; stands = refl; first = refl }
 two-stage Away e = absurd (clash e refl)
+two-stage Marked e = absurd (clash e refl)
+two-stage Dropped e = absurd (clash e refl)
 
 -- a core with a second unit has the flag of its first
 pub first-flag :
@@ -216,13 +233,12 @@ first-flag t a j h two =
     let c = coreOf t j in
     let r = registerOf t (c .first .0) j in
     let z = two-stage (c .state) two in
-    let same = eq-eqb (c .first .0) (c .first .0) refl in
-    let agrees = a .agrees (c .first .0) (first-place t a j h (z .live)) j h in
-    shows r (c .own) true (simp (z .stands, two, same) at agrees) .flag refl
+    at-first c r (z .stands) (a .agrees (c .first .0) (first-place t a j h (z .busy)) j h) .shows .flag (z .first)
 
--- core d waits for unit u, its first, with the ticket n
+-- core d waits for unit u, its first, or is marked away from it, with the ticket n
 pub record WaitsAt (d : Core) (u : ℕ) (n : Ticket) : Type 0 where
-  pub state : d .state ≡ Waiting
+  pub unserved : unserved (d .state) ≡ true
+  pub live : isLive (d .state) ≡ true
   pub first : d .first .0 ≡ u
   pub own : d .own .0 ≡ n .0
 
@@ -236,18 +252,15 @@ pub in-line-waits :
     WaitsAt d u (r .ticket)
 in-line-waits t d u r low named agrees line =
     ⊎-elim
-    (λ a. record { state = a .0; first = sym (a .1 .unit); own = sym (a .1 .shows .ticket) })
+    (λ a.
+    record {
+      unserved = ⊎-elim (λ e. ap unserved e) (λ e. ap unserved e) (a .0);
+      live = stands-live (d .state) (a .1 .stands);
+      first = sym (a .1 .unit);
+      own = sym (a .1 .shows .ticket);
+    })
     (λ a. let e = a .0 in let q = a .1 .unit in absurd (omega (arith, names-two t d (simp e at named))))
     (in-line-at d u r agrees line)
-
--- a core that lends is live
-pub unserved-live : (z : State) → unserved z ≡ true → isIdle z ≡ false
-unserved-live Idle e = absurd (clash e refl)
-unserved-live Waiting e = refl
-unserved-live Holding e = refl
-unserved-live WaitingSecond e = refl
-unserved-live HoldingBoth e = refl
-unserved-live Away e = refl
 
 -- the own ticket may be carried, and so may an older one that a register in line shows
 module _ (t : Table) (s : Sound t) (k : ℕ) (small : k < cores) (e : coreOf t k .state ≡ WaitingSecond) where
@@ -258,7 +271,7 @@ module _ (t : Table) (s : Sound t) (k : ℕ) (small : k < cores) (e : coreOf t k
   own-ticket = or-left _ (eq-eqb (coreOf t k .own .0) (coreOf t k .own .0) refl)
 
   own-window : Window (t .counter .0) (coreOf t k .own .0)
-  own-window = live-window t s k small (ap isIdle e)
+  own-window = live-window t s k small (ap isLive e)
 
   new-ticket :
       (j : ℕ) (m : Ticket) →
@@ -271,7 +284,7 @@ module _ (t : Table) (s : Sound t) (k : ℕ) (small : k < cores) (e : coreOf t k
       or-right (eqb (m .0) (coreOf t k .own .0))
       (and-both
       (at-some (λ (i : ℕ). S.lends c' (coreOf t i)) cores j h
-      (lending c' (coreOf t j) (record { unserved = ap unserved (w .state); first = w .first; own = w .own })))
+      (lending c' (coreOf t j) (record { unserved = w .unserved; first = w .first; own = w .own })))
       (ap readsOlder o))
 
   inherited-ticket : S.carries t (stays (coreOf t k) (inherited t (coreOf t k)) (coreOf t k .second) WaitingSecond) ≡ true
@@ -287,7 +300,7 @@ module _ (t : Table) (s : Sound t) (k : ℕ) (small : k < cores) (e : coreOf t k
       pick Younger j m h w o = own-ticket
       pick Same j m h w o = own-ticket
       pick Opposite j m h w o =
-          let wm = rw (w .own) at (live-window t s j h (ap isIdle (w .state))) in
+          let wm = rw (w .own) at (live-window t s j h (w .live)) in
           absurd (never-opposite (t .counter .0) (m .0) (coreOf t k .own .0) wm own-window o)
 
       go :
@@ -313,32 +326,55 @@ module _ (t : Table) (shaped : Shaped t) (s : Sound t) (k : CoreNo) where
   abbrev c : Core
   c = coreOf t (k .0)
 
-  almost-request : (u : UnitNo) → verdict t (R k u) ≡ Allowed → Almost (moves t (R k u))
-  almost-request u may =
+  -- where somebody has a second unit, nobody is dropped, and so who lends is live
+  lender-undropped : (j i : ℕ) → j < cores → i < cores → twoStage (coreOf t j .state) ≡ true → isDropped (coreOf t i .state) ≡ false
+  lender-undropped j i h l two =
+      two-undropped (t .counts .profile) (coreOf t j .state) (coreOf t i .state) (s .core j h .suited) two (s .core i l .suited)
+
+  -- a core that stands nowhere takes a new ticket and joins: R, and C of a dropped core
+  joins :
+      (u : UnitNo) →
+      k .0 < t .counts .cores →
+      u .0 < unitCount t →
+      stands (c .state) ≡ false →
+      twoStage (c .state) ≡ false →
+      stretched (t .counter) (t .cores) (t .counts .cores) ≡ false →
+      ((j : ℕ) → j < cores → twoStage (coreOf t j .state) ≡ true → unserved (c .state) ≡ true → ⊥) →
+      Almost (affected t (k .0) (request u (t .counter)))
+  joins u within unit out one close lends =
       let n = t .counter in
-      let r = may-request t k u may in
       let waiting = core n n u (unitNo 0) Waiting in
       let self = behind-self (n .0) in
-      column-changed t shaped s (k .0) (r .within) (request u n)
+      let l = small t shaped s (k .0) within in
+      column-changed t shaped s (k .0) within (request u n)
       (record {
+        suited = suits-waiting (t .counts .profile);
         idleBlank = refl;
-        named = lt-ltb _ _ (r .unit);
-        recent = window-recent (moves t (R k u)) waiting (λ live. next-window (n .0) (n .0) (omega arith));
+        droppedBlank = refl;
+        named = lt-ltb _ _ unit;
+        recent = window-recent (affected t (k .0) (request u n)) waiting (λ live. next-window (n .0) (n .0) (omega arith));
         othersRecent = λ j h.
-            window-recent (moves t (R k u)) (coreOf t j)
-            (λ live. next-window (n .0) (coreOf t j .own .0) (live-close t s (r .close) j h live));
+            window-recent (affected t (k .0) (request u n)) (coreOf t j)
+            (λ live. next-window (n .0) (coreOf t j .own .0) (live-close t s close j h live));
         apart = λ j h d p live same.
             let far = live-window t s j h live .least in
             let none = told (n .0) (coreOf t j .own .0) Same same in
             omega arith;
         carries = simp (eq-eqb (n .0) (n .0) refl);
-        lends = λ j h d two l. absurd (clash (l .unserved) (ap unserved (r .state)));
+        lends = λ j h d two x. absurd (lends j h two (x .unserved));
         agrees =
             entered-agrees t (k .0) waiting (u .0) (standing n)
             (simp (eq-eqb (u .0) (u .0) refl, eq-eqb (n .0) (n .0) refl))
             (λ v h d.
-            simp (ne-eqb v (u .0) d) (simp (r .state) at (s .unit v h .agrees (k .0) (small t shaped s (k .0) (r .within)))));
+            simp (ne-eqb v (u .0) d)
+            (ap S.isBlank (bare t s (k .0) l v h (no-and (stands (c .state)) _ out) (no-and (twoStage (c .state)) _ one))));
       })
+
+  almost-request : (u : UnitNo) → verdict t (R k u) ≡ Allowed → Almost (moves t (R k u))
+  almost-request u may =
+      let r = may-request t k u may in
+      joins u (r .within) (r .unit) (ap stands (r .state)) (ap twoStage (r .state)) (r .close)
+      (λ j h two x. clash x (ap unserved (r .state)))
 
   almost-nest : (u : UnitNo) → verdict t (N k u) ≡ Allowed → Almost (moves t (N k u))
   almost-nest u may =
@@ -347,8 +383,9 @@ module _ (t : Table) (shaped : Shaped t) (s : Sound t) (k : CoreNo) where
       let other : u .0 ≢ c .first .0 = omega (arith, r) in
       stayed t shaped s (k .0) (r .within) (c .own) u WaitingSecond (Enter u (c .own))
       (record {
-        was = ap isIdle (r .state);
+        was = ap isLive (r .state);
         live = refl;
+        suited = has-second (t .counts .profile) refl (omega (arith, r));
         named = two-names t c' (record { first = r .first; low = r .second; high = r .unit });
         carries = simp (eq-eqb (c .own .0) (c .own .0) refl);
         lends = λ j h d two l. absurd (clash (l .unserved) (ap unserved (r .state)));
@@ -358,48 +395,149 @@ module _ (t : Table) (shaped : Shaped t) (s : Sound t) (k : CoreNo) where
             (λ v h d.
             simp (ne-eqb v (u .0) d) (simp (r .state) at (s .unit v h .agrees (k .0) (small t shaped s (k .0) (r .within)))));
       })
+    where
+      has-second : (p : Profile) → t .counts .profile ≡ p → 0 < t .counts .second → suits p WaitingSecond ≡ true
+      has-second T e h = refl
+      has-second D e h = absurd (let z = none-second (t .counts) (s .counts) e in omega arith)
 
   almost-come-back : verdict t (C k) ≡ Allowed → Almost (moves t (C k))
-  almost-come-back may =
-      let r = may-come-back t k may in
-      let l = small t shaped s (k .0) (r .0) in
-      stayed t shaped s (k .0) (r .0) (c .own) (unitNo 0) Waiting (Enter (c .first) (c .own))
+  almost-come-back may = come-cases (t .counter) c (λ (e : Effect). Almost (affected t (k .0) e)) away marked gone (r .state)
+    where
+      r : ComingBack t k
+      r = may-come-back t k may
+
+      l : k .0 < cores
+      l = small t shaped s (k .0) (r .within)
+
+      -- in T
+      away : c .state ≡ Away → Almost (affected t (k .0) (enterAgain (t .counter) c))
+      away e =
+          (stayed t shaped s (k .0) (r .within) (c .own) (unitNo 0) Waiting (Enter (c .first) (c .own))
+          (record {
+            was = ap isLive e;
+            live = refl;
+            suited = suits-waiting (t .counts .profile);
+            named = lt-ltb _ _ (first-there t s (k .0) l (ap isIdle e));
+            carries = simp (eq-eqb (c .own .0) (c .own .0) refl);
+            lends = λ j h d two l. refl;
+            agrees =
+                entered-agrees t (k .0) (stays c (c .own) (unitNo 0) Waiting) (c .first .0) (standing (c .own))
+                (simp (eq-eqb (c .first .0) (c .first .0) refl, eq-eqb (c .own .0) (c .own .0) refl))
+                (λ u h d. simp (ne-eqb u (c .first .0) d) (simp e at (s .unit u h .agrees (k .0) l)));
+          }))
+
+      -- in D, still registered, and dropped
+      marked : c .state ≡ Marked → Almost (affected t (k .0) (goOn (t .counter) c))
+      marked e =
+          (stayed t shaped s (k .0) (r .within) (c .own) (unitNo 0) Waiting Stay
+          (record {
+            was = ap isLive e;
+            live = refl;
+            suited = suits-waiting (t .counts .profile);
+            named = lt-ltb _ _ (first-there t s (k .0) l (ap isIdle e));
+            carries = simp (eq-eqb (c .own .0) (c .own .0) refl);
+            lends = λ j h d two l. refl;
+            agrees = λ u h.
+                let q = registerOf t u (k .0) in
+                unmark (eqb u (c .first .0)) (S.flagless Marked q) (S.shows q (c .own) false) (S.isBlank q) (simp e at (s .unit u h .agrees (k .0) l));
+          }))
+        where
+          unmark : (b f p q : Bool) → cond b (f && p) q ≡ true → cond b p q ≡ true
+          unmark true f p q h = and-right f p h
+          unmark false f p q h = h
+
+      gone : c .state ≡ Dropped → Almost (affected t (k .0) (request (c .first) (t .counter)))
+      gone e =
+          (joins (c .first) (r .within) (first-there t s (k .0) l (ap isIdle e)) (ap stands e) (ap twoStage e) (r .close e)
+          (λ j h two x. clash (ap isDropped e) (lender-undropped j (k .0) h l two)))
+
+  -- in D a core is dropped: it gives up its registers, and its ticket ends
+  pub almost-dropped : t .counts .profile ≡ D → k .0 < t .counts .cores → isIdle (c .state) ≡ false → Almost (affected t (k .0) (countsDropped (t .counter) c))
+  almost-dropped d within busy =
+      let l = small t shaped s (k .0) within in
+      column-changed t shaped s (k .0) within (countsDropped (t .counter) c)
       (record {
-        was = ap isIdle (r .1);
-        live = refl;
-        named = lt-ltb _ _ (first-there t s (k .0) l (ap isIdle (r .1)));
-        carries = simp (eq-eqb (c .own .0) (c .own .0) refl);
-        lends = λ j h d two l. refl;
-        agrees =
-            entered-agrees t (k .0) (stays c (c .own) (unitNo 0) Waiting) (c .first .0) (standing (c .own))
-            (simp (eq-eqb (c .first .0) (c .first .0) refl, eq-eqb (c .own .0) (c .own .0) refl))
-            (λ u h d. simp (ne-eqb u (c .first .0) d) (simp (r .1) at (s .unit u h .agrees (k .0) l)));
+        suited = suits-D (t .counts .profile) Dropped d refl;
+        idleBlank = refl;
+        droppedBlank = refl;
+        named = lt-ltb _ _ (first-there t s (k .0) l busy);
+        recent = refl;
+        othersRecent = λ j h. s .core j h .recent;
+        apart = λ j h e p. absurd (clash p refl);
+        carries = refl;
+        lends = λ j h e two x. absurd (clash two (single-in-D (t .counts .profile) (coreOf t j .state) d (s .core j h .suited)));
+        agrees = λ u h. refl;
       })
 
   almost-interrupt : verdict t (I k) ≡ Allowed → Almost (moves t (I k))
-  almost-interrupt may =
-      let r = may-interrupt t k may in
-      let live = ⊎-elim (λ e. ap isIdle e) (λ e. ap isIdle e) (r .1) in
-      stayed t shaped s (k .0) (r .0) (c .own) (unitNo 0) Away GiveUp
-      (record {
-        was = live;
-        live = refl;
-        named = lt-ltb _ _ (first-there t s (k .0) (small t shaped s (k .0) (r .0)) live);
-        carries = simp (eq-eqb (c .own .0) (c .own .0) refl);
-        lends = λ j h d two l. refl;
-        agrees = λ u h. refl;
-      })
+  almost-interrupt may = go (t .counts .profile) refl (registerOf t (awaited c) (k .0) .flag) refl
+    where
+      r : (k .0 < t .counts .cores) × ((c .state ≡ Waiting) ⊎ (c .state ≡ WaitingSecond))
+      r = may-interrupt t k may
+
+      l : k .0 < cores
+      l = small t shaped s (k .0) (r .0)
+
+      live : isLive (c .state) ≡ true
+      live = ⊎-elim (λ e. ap isLive e) (λ e. ap isLive e) (r .1)
+
+      named : c .first .0 < unitCount t
+      named = first-there t s (k .0) l (live-busy (c .state) live)
+
+      -- waiting for its first unit, and marked away from it
+      mark : (b y : Bool) (q : Register) (n : Ticket) → (b ≡ true → q .flag ≡ false) → cond b (S.shows q n false) y ≡ true → cond b (S.flagless Marked q && S.shows q n false) y ≡ true
+      mark true y q n f h = and-both (ap not (f refl)) h
+      mark false y q n f h = h
+
+      go : (p : Profile) → t .counts .profile ≡ p → (f : Bool) → registerOf t (awaited c) (k .0) .flag ≡ f → Almost (affected t (k .0) (interrupt p (t .counter) c f))
+      go T e f q =
+          stayed t shaped s (k .0) (r .0) (c .own) (unitNo 0) Away GiveUp
+          (record {
+            was = live;
+            live = refl;
+            suited = suits-T (t .counts .profile) Away e refl;
+            named = lt-ltb _ _ named;
+            carries = simp (eq-eqb (c .own .0) (c .own .0) refl);
+            lends = λ j h d two l. refl;
+            agrees = λ u h. refl;
+          })
+      go D e true q = almost-dropped e (r .0) (live-busy (c .state) live)
+      go D e false q = ⊎-elim first second (r .1)
+        where
+          first : c .state ≡ Waiting → Almost (affected t (k .0) (markedAway (t .counter) c))
+          first z =
+              stayed t shaped s (k .0) (r .0) (c .own) (unitNo 0) Marked Stay
+              (record {
+                was = live;
+                live = refl;
+                suited = suits-D (t .counts .profile) Marked e refl;
+                named = lt-ltb _ _ named;
+                carries = simp (eq-eqb (c .own .0) (c .own .0) refl);
+                lends = λ j h d two l. refl;
+                agrees = λ u h.
+                    mark (eqb u (c .first .0)) (S.isBlank (registerOf t u (k .0))) (registerOf t u (k .0)) (c .own)
+                    (λ w. ap (λ (v : ℕ). registerOf t v (k .0) .flag) (eqb-true u (c .first .0) w) ∙ clear)
+                    (simp z at (s .unit u h .agrees (k .0) l));
+              })
+            where
+              clear : registerOf t (c .first .0) (k .0) .flag ≡ false
+              clear = ap (λ (y : State). registerOf t (cond (twoStage y) (c .second .0) (c .first .0)) (k .0) .flag) (sym z) ∙ q
+
+          second : c .state ≡ WaitingSecond → Almost (affected t (k .0) (markedAway (t .counter) c))
+          second z = absurd (clash (ap twoStage z) (single-in-D (t .counts .profile) (c .state) e (s .core (k .0) l .suited)))
 
   almost-release : verdict t (L k) ≡ Allowed → Almost (moves t (L k))
   almost-release may =
       let r = may-release t k may in
       column-changed t shaped s (k .0) (r .0) (release (t .counter) c)
       (record {
+        suited = suits-idle (t .counts .profile);
         idleBlank = refl;
+        droppedBlank = refl;
         named = refl;
         recent = refl;
         othersRecent = λ j h. s .core j h .recent;
-        apart = λ j h d p. absurd (clash refl p);
+        apart = λ j h d p. absurd (clash p refl);
         carries = refl;
         lends = λ j h d two l.
             absurd (clash (l .unserved) (⊎-elim (λ e. ap unserved e) (λ e. ap unserved e) (r .1)));
@@ -418,14 +556,19 @@ module _ (t : Table) (shaped : Shaped t) (s : Sound t) (k : CoreNo) where
     l : k .0 < cores
     l = small t shaped s (k .0) within
 
+    -- at the second stage the profile is T
+    second-T : c .state ≡ WaitingSecond → t .counts .profile ≡ T
+    second-T e = two-in-T (t .counts .profile) (c .state) (s .core (k .0) l .suited) (ap twoStage e)
+
     -- P, flag set: waiting for the first unit, or for the second
     hold-first : c .state ≡ Waiting → registerOf t (c .first .0) (k .0) .flag ≡ true → Almost (holding t (k .0))
     hold-first e f =
         rw e
         (stayed t shaped s (k .0) within (c .carried) (c .second) Holding Stay
         (record {
-          was = ap isIdle e;
+          was = ap isLive e;
           live = refl;
+          suited = suits-holding (t .counts .profile);
           named = lt-ltb _ _ (first-there t s (k .0) l (ap isIdle e));
           carries = simp e at (s .core (k .0) l .carries);
           lends = λ j h d two x.
@@ -443,8 +586,9 @@ module _ (t : Table) (shaped : Shaped t) (s : Sound t) (k : CoreNo) where
         rw e
         (stayed t shaped s (k .0) within (c .carried) (c .second) HoldingBoth Stay
         (record {
-          was = ap isIdle e;
+          was = ap isLive e;
           live = refl;
+          suited = suits-T (t .counts .profile) HoldingBoth (second-T e) refl;
           named = simp e at (s .core (k .0) l .named);
           carries = carries-on (staying t (k .0) (c .carried) (c .second) HoldingBoth Stay) l (ap unserved e) (simp e at (s .core (k .0) l .carries));
           lends = λ j h d two x. absurd (clash (x .unserved) (ap unserved e));
@@ -464,8 +608,9 @@ module _ (t : Table) (shaped : Shaped t) (s : Sound t) (k : CoreNo) where
         rw e
         (stayed t shaped s (k .0) within n (c .second) WaitingSecond (Carry n)
         (record {
-          was = ap isIdle e;
+          was = ap isLive e;
           live = refl;
+          suited = suits-T (t .counts .profile) WaitingSecond (second-T e) refl;
           named = two-names t c' (record { first = names .first; low = names .low; high = names .high });
           carries = carries-on (staying t (k .0) n (c .second) WaitingSecond (Carry n)) l (ap unserved e) (inherited-ticket t s (k .0) l e);
           lends = λ j h d two x. absurd (clash (x .unserved) (ap unserved e));
@@ -498,12 +643,12 @@ module _ (t : Table) (shaped : Shaped t) (s : Sound t) where
   moves-almost (C k) = almost-come-back t shaped s k
   moves-almost (L k) = almost-release t shaped s k
 
-  allowed-core : (z : Step) → verdict t z ≡ Allowed → whose z .0 < t .counts .cores
+  pub allowed-core : (z : Step) → verdict t z ≡ Allowed → whose z .0 < t .counts .cores
   allowed-core (R k u) may = may-request t k u may .within
   allowed-core (N k u) may = may-nest t k u may .within
   allowed-core (P k) may = may-poll t k may .0
   allowed-core (I k) may = may-interrupt t k may .0
-  allowed-core (C k) may = may-come-back t k may .0
+  allowed-core (C k) may = may-come-back t k may .within
   allowed-core (L k) may = may-release t k may .0
 
   -- it names a core of the table, and moves nothing but that core's column

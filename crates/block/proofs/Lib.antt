@@ -1,6 +1,7 @@
 pub mod Parts
 pub mod Access
 pub mod Almost
+pub mod Suited
 pub mod Showing
 pub mod Touched
 pub mod Allows
@@ -13,10 +14,15 @@ pub mod Moving
 pub mod Columns
 pub mod Kept
 pub mod Oldest
-pub mod Answering
 pub mod Entering
+pub mod Answering
+pub mod Presence
+pub mod DroppedSound
+pub mod DroppedFirst
 pub mod ByParts
+pub mod DropsKept
 pub mod InPlace
+pub mod GivingWay
 pub mod Rows
 pub mod Held
 pub mod Determined

@@ -1,10 +1,11 @@
 -- What picking promises on a unit of a table that is sound, but perhaps for flags to be set. Every ticket shown is the own ticket of
 -- a live core, of the one that shows it or of one that lends it; so the tickets lie in the window behind the counter, and no two
 -- cores at a unit show the same one, as a core lends to one core only, and does not stand where its ticket is borrowed.
-use Prim.Native.Nat.{ℕ, _<_}
+use Prim.Native.Nat.{ℕ, _≤_, _<_}
 use mathlib.Core.Bool.{Bool, true, false}
 use mathlib.Core.Logic.{_⊎_, inl, inr, ⊎-elim, _≢_}
 use mathlib.Core.Path.{_≡_, refl, sym, _∙_, ap₂}
+use native.Mathlib.Nat.{le-refl}
 use native.Mathlib.Omega.{arith}
 use lib.Dec.{eqb}
 use borrow.Author.Tests.{eqb-true}
@@ -13,15 +14,16 @@ use Rattle.ticket.specs.declared.kinds.CoreNo.{CoreNo}
 use Rattle.ticket.specs.declared.kinds.Ticket.{Ticket}
 use Rattle.ticket.specs.declared.order.Comparison.the-variants.{Older, Same}
 use Rattle.parts.specs.Fold.{some}
-use Rattle.parts.specs.State.{isIdle, stands, twoStage, unserved}
+use Rattle.parts.specs.State.{isLive, twoStage, unserved}
 use Rattle.parts.specs.Parts.{cores, units}
 use Rattle.block.specs.Table.{coreOf, unitOf, registerOf}
 use Rattle.settling.specs.Line.{inLine, next}
+use Rattle.settling.specs.InFront.{InOrder}
 use Rattle.block.specs.Sound as S
 use Rattle.block.specs.Parts.{Sound}
 use Rattle.parts.specs.declared.kinds.Core.{Core}
 use Rattle.parts.specs.declared.kinds.State.{State}
-use Rattle.parts.specs.declared.kinds.State.the-variants.{Idle, Waiting, Holding, WaitingSecond, HoldingBoth, Away}
+use Rattle.parts.specs.declared.kinds.State.the-variants.{Idle, Waiting, Holding, WaitingSecond, HoldingBoth, Away, Marked, Dropped}
 use Rattle.block.specs.declared.table.Table.{Table}
 use Rattle.settling.specs.declared.line.Best.the-variants.{Nobody, Won}
 use Rattle.parts.proofs.Bools.{and-left, or-cases, clash}
@@ -31,19 +33,12 @@ use Rattle.block.proofs.Almost.{Almost}
 use Rattle.block.proofs.Agreeing.{AtFirst, AtSecond, valid-at}
 use Rattle.settling.proofs.Picking.{next-won, nobody-next, next-nobody, next-oldest}
 use Rattle.block.proofs.Columns.{Lends, lent, differ-apart, sound-almost}
-use Rattle.block.proofs.Kept.{names-two, recent-window, two-stage, first-flag, first-place, unserved-live}
+use Rattle.block.proofs.Kept.{names-two, recent-window, two-stage, first-flag, first-place}
+use Rattle.block.proofs.Suited.{stands-live, unserved-live, two-undropped}
 
 -- own tickets fit sixteen bits, as those of every table that a program holds
 pub record Fitting (t : Table) : Type 0 where
   pub own : (k : ℕ) → k < cores → coreOf t k .own .0 < circle
-
-stands-live : (z : State) → stands z ≡ true → isIdle z ≡ false
-stands-live Idle e = absurd (clash e refl)
-stands-live Waiting e = refl
-stands-live Holding e = refl
-stands-live WaitingSecond e = refl
-stands-live HoldingBoth e = refl
-stands-live Away e = refl
 
 unserved-single : (z : State) → unserved z ≡ true → twoStage z ≡ false
 unserved-single Idle e = refl
@@ -52,6 +47,8 @@ unserved-single Holding e = refl
 unserved-single WaitingSecond e = absurd (clash e refl)
 unserved-single HoldingBoth e = absurd (clash e refl)
 unserved-single Away e = refl
+unserved-single Marked e = refl
+unserved-single Dropped e = refl
 
 -- core k stands at u, its second unit, with a ticket that core j lends
 pub record Borrows (t : Table) (u k j : ℕ) : Type 0 where
@@ -63,7 +60,7 @@ pub record Borrows (t : Table) (u k j : ℕ) : Type 0 where
 pub record Owner (t : Table) (u k : ℕ) : Type 0 where
   pub core : ℕ
   pub small : core < cores
-  pub live : isIdle (coreOf t core .state) ≡ false
+  pub live : isLive (coreOf t core .state) ≡ true
   pub own : coreOf t core .own .0 ≡ registerOf t u k .ticket .0
   pub how : (core ≡ k) ⊎ Borrows t u k core
 
@@ -104,7 +101,9 @@ module _ (t : Table) (a : Almost t) (u : ℕ) (place : u < units) where
             record {
               core = j .0;
               small = j .1;
-              live = unserved-live (coreOf t (j .0) .state) (l .unserved);
+              live =
+                  unserved-live (coreOf t (j .0) .state) (l .unserved)
+                  (two-undropped (t .counts .profile) (c .state) (coreOf t (j .0) .state) (a .core k h .suited) (f .two) (a .core (j .0) (j .1) .suited));
               own = l .own ∙ sym (f .shows .ticket);
               how = inr (record { two = f .two; second = sym (f .unit); lends = l });
             }
@@ -119,7 +118,7 @@ module _ (t : Table) (a : Almost t) (u : ℕ) (place : u < units) where
     where
       first : AtFirst (coreOf t k) u (registerOf t u k) → ⊥
       first f =
-          let live = two-stage (coreOf t i .state) (b .two) .live in
+          let live = two-stage (coreOf t i .state) (b .two) .busy in
           let names = names-two t (coreOf t i) (simp (live, b .two) at (a .core i l .named)) in
           omega (arith, f .unit, b .lends .first, b .second)
 
@@ -131,7 +130,7 @@ module _ (t : Table) (a : Almost t) (u : ℕ) (place : u < units) where
   borrower-only i k j l h b d =
       let c = coreOf t k in
       let same : coreOf t i .first .0 ≡ c .first .0 = sym (b .lends .first) ∙ d .lends .first in
-      let there = first-place t a k h (two-stage (c .state) (d .two) .live) in
+      let there = first-place t a k h (two-stage (c .state) (d .two) .busy) in
       count-unique (λ (m : ℕ). registerOf t (c .first .0) m .flag) cores i k (a .few (c .first .0) there) l h
       (rw same at (first-flag t a i l (b .two)))
       (first-flag t a k h (d .two))
@@ -166,6 +165,16 @@ module _ (t : Table) (a : Almost t) (u : ℕ) (place : u < units) where
   shown-recent k h v =
       let o = owner k h v in rw (o .own) at (recent-window t (coreOf t (o .core)) (o .live) (a .core (o .core) (o .small) .recent))
 
+-- so the tickets in line have one order
+pub in-order : (t : Table) → Almost t → (u : ℕ) → u < units → (n : ℕ) → n ≤ cores → InOrder n (unitOf t u)
+in-order t a u place n few =
+    let valid : (j : ℕ) → inLine (registerOf t u j) ≡ true → registerOf t u j .valid ≡ true = λ j l. and-left (registerOf t u j .valid) _ l in
+    record {
+      counter = t .counter .0;
+      recent = λ j h l. shown-recent t a u place j (omega arith) (valid j l);
+      apart = λ i j h h' d l l'. shown-apart t a u place i j (omega arith) (omega arith) d (valid i l) (valid j l');
+    }
+
 -- nobody is next exactly if nobody is in line
 pub oldest-nobody :
     (t : Table) →
@@ -175,11 +184,8 @@ pub oldest-nobody :
     (next cores (unitOf t u) ≡ Nobody → (k : ℕ) → k < cores → inLine (registerOf t u k) ≡ false) ×
     (((k : ℕ) → k < cores → inLine (registerOf t u k) ≡ false) → next cores (unitOf t u) ≡ Nobody)
 oldest-nobody t a u place =
-    let valid : (j : ℕ) → inLine (registerOf t u j) ≡ true → registerOf t u j .valid ≡ true = λ j l. and-left (registerOf t u j .valid) _ l in (
-      nobody-next cores (unitOf t u) (t .counter .0) (λ j h l. shown-recent t a u place j h (valid j l))
-          (λ i j h h' d l l'. shown-apart t a u place i j h h' d (valid i l) (valid j l')),
-      next-nobody cores (unitOf t u),
-    )
+    let o = in-order t a u place cores (le-refl cores) in
+    (nobody-next cores (unitOf t u) (o .counter) (o .recent) (o .apart), next-nobody cores (unitOf t u))
 
 -- core k is in line at u with the ticket n, which is older than all others in line
 abbrev pub Oldest : Table → ℕ → CoreNo → Ticket → Type 0

@@ -21,20 +21,26 @@ module _ (t : Table) where
   core-parts k e =
       let c = coreOf t k in
       let a = S.within t k in
-      let b = a && S.idleBlank c in
+      let a1 = a && S.suited t c in
+      let a2 = a1 && S.idleBlank c in
+      let b = a2 && S.droppedBlank c in
       let d = b && S.named t c in
       let f = d && S.recent t c in
       let g = f && every (S.differ t k) cores in
-      let e5 = and-left g (S.carries t c) e in
-      let e4 = and-left f (every (S.differ t k) cores) e5 in
-      let e3 = and-left d (S.recent t c) e4 in
-      let e2 = and-left b (S.named t c) e3 in
+      let e7 = and-left g (S.carries t c) e in
+      let e6 = and-left f (every (S.differ t k) cores) e7 in
+      let e5 = and-left d (S.recent t c) e6 in
+      let e4 = and-left b (S.named t c) e5 in
+      let e3 = and-left a2 (S.droppedBlank c) e4 in
+      let e2 = and-left a1 (S.idleBlank c) e3 in
       record {
-        within = and-left a (S.idleBlank c) e2;
-        idleBlank = and-right a (S.idleBlank c) e2;
-        named = and-right b (S.named t c) e3;
-        recent = and-right d (S.recent t c) e4;
-        differ = every-at (S.differ t k) cores (and-right f (every (S.differ t k) cores) e5);
+        within = and-left a (S.suited t c) e2;
+        suited = and-right a (S.suited t c) e2;
+        idleBlank = and-right a1 (S.idleBlank c) e3;
+        droppedBlank = and-right a2 (S.droppedBlank c) e4;
+        named = and-right b (S.named t c) e5;
+        recent = and-right d (S.recent t c) e6;
+        differ = every-at (S.differ t k) cores (and-right f (every (S.differ t k) cores) e7);
         carries = and-right g (S.carries t c) e;
       }
 
@@ -43,7 +49,7 @@ module _ (t : Table) where
   core-whole k c =
       and-both
       (and-both
-      (and-both (and-both (and-both (c .within) (c .idleBlank)) (c .named)) (c .recent))
+      (and-both (and-both (and-both (and-both (and-both (c .within) (c .suited)) (c .idleBlank)) (c .droppedBlank)) (c .named)) (c .recent))
       (at-every (S.differ t k) cores (c .differ)))
       (c .carries)
 

@@ -1,11 +1,12 @@
 -- The units of a table as a run holds them, a row of registers for each unit and what each shows: a changed register of a row is the changed
 -- register of its unit, and the flag that is passed on and the next in line that is found by the pairs are those of the unit.
-use Prim.Native.Nat.{ℕ, zero, suc, _<_}
+use Prim.Native.Nat.{ℕ, zero, suc, _+_, _≤_, _<_}
 use mathlib.Core.Bool.{true, false}
-use mathlib.Core.List.{List, [], _∷_, map}
+use mathlib.Core.List.{List, [], _∷_, _++_, map}
 use mathlib.Core.Path.{_≡_, refl, sym, _∙_, ap, ap₂}
+use native.Mathlib.Numerals.{add-one}
 use native.Mathlib.Omega.{arith}
-use lib.ListN.{length, getD, set, length-set, length-map, List·getD-map}
+use lib.ListN.{length, getD, set, take, length-set, length-map, List·getD-map}
 use lib.Seq.{getD-set-same, set-set}
 use Rattle.ticket.specs.declared.kinds.CoreNo.{CoreNo}
 use Rattle.ticket.specs.declared.kinds.UnitNo.{UnitNo}
@@ -65,7 +66,7 @@ unit-at (l ∷ ls) [] i e = absurd (omega arith)
 unit-at (l ∷ ls) (v ∷ vs) zero e = refl
 unit-at (l ∷ ls) (v ∷ vs) (suc i) e = unit-at ls vs i (omega arith)
 
-together-set :
+pub together-set :
     (rows : List (List Register)) (nexts : List Next) (i : ℕ) (l : List Register) (v : Next) →
     together (set rows i l) (set nexts i v) ≡ set (together rows nexts) i (unitWith l v)
 unfolding together

@@ -65,7 +65,7 @@ module _ (t : Table) (u : ℕ) (x : LockUnit) (at : unitOf (withUnit t u x) u �
       ap (λ (z : Table). show z u) (twice x y) ∙
       put-shown y (still-put (t .units) u x (k .0) (flagged (registerIn x (k .0))) at)
 
-  put-settled : settleAt before u ≡ put (settledUnit x)
+  pub put-settled : settleAt before u ≡ put (settledUnit x)
   put-settled =
       ap (λ (z : LockUnit). record { table = show (give before u (winner z)) u; winner = winner z }) at ∙
       ap (λ (z : Table). record { table = z; winner = winner x }) (put-give (winner x))

@@ -64,7 +64,9 @@ module _ (t : Table) (u : ℕ) where
             let c = a .core k h in
             record {
               within = c .within;
+              suited = c .suited;
               idleBlank = c .idleBlank;
+              droppedBlank = c .droppedBlank;
               named = c .named;
               recent = c .recent;
               differ = c .differ;

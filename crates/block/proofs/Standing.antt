@@ -12,7 +12,7 @@ use Rattle.parts.specs.Fold.{one}
 use Rattle.parts.specs.State.{isIdle, stands, twoStage}
 use Rattle.parts.specs.Parts.{cores, units, blank, registerIn}
 use Rattle.block.specs.Table.{coreOf, unitOf, registerOf, unitCount}
-use Rattle.parts.specs.Range.{inRange, perClass}
+use Rattle.parts.specs.Range.{inRange, perClass, classed}
 use Rattle.settling.specs.Line.{flags}
 use Rattle.block.specs.Sound as S
 use Rattle.block.specs.Parts.{Sound}
@@ -36,10 +36,11 @@ units-few c e =
     let d = leb 1 (c .first) in
     let f = leb (c .first) perClass in
     let g = leb (c .second) perClass in
+    let e1 = and-left (a && b && d && f && g) (classed (c .profile) (c .second)) e in
     omega (
       arith,
-      leb-true (c .first) perClass (and-right (a && b && d) f (and-left (a && b && d && f) g e)),
-      leb-true (c .second) perClass (and-right (a && b && d && f) g e),
+      leb-true (c .first) perClass (and-right (a && b && d) f (and-left (a && b && d && f) g e1)),
+      leb-true (c .second) perClass (and-right (a && b && d && f) g e1),
     )
 
 -- a blank register, and one where the core does not stand

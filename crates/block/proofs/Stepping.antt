@@ -13,16 +13,16 @@ use borrow.Author.Tests.{eqb-true, eq-eqb, ne-eqb}
 use Rattle.ticket.specs.declared.kinds.CoreNo.{CoreNo}
 use Rattle.ticket.specs.declared.kinds.Ticket.{Ticket}
 use Rattle.parts.specs.Fold.{one}
-use Rattle.parts.specs.State.{isIdle, stands, holdsBoth, twoStage, waits}
+use Rattle.parts.specs.State.{isIdle, isMarked, isDropped, stands, holdsBoth, twoStage, waits}
 use Rattle.parts.specs.Parts.{cores, units, blank, standing, idle, absentUnit, registerIn, registered}
 use Rattle.parts.specs.declared.kinds.Register.{Register}
 use Rattle.parts.specs.declared.kinds.LockUnit.{LockUnit}
 use Rattle.parts.specs.declared.kinds.Core.{Core}
 use Rattle.parts.specs.declared.kinds.State.{State}
-use Rattle.parts.specs.declared.kinds.State.the-variants.{Idle, Waiting, Holding, WaitingSecond, HoldingBoth, Away}
+use Rattle.parts.specs.declared.kinds.State.the-variants.{Idle, Waiting, Holding, WaitingSecond, HoldingBoth, Away, Marked, Dropped}
 use Rattle.parts.specs.declared.answer.Step.the-variants.{P}
 use Rattle.settling.specs.Line.{flags, next}
-use Rattle.effects.specs.Effect.{heir, hold, inherit, wait}
+use Rattle.effects.specs.Effect.{request, enterAgain, goOn, comeBack, heir, hold, inherit, wait}
 use Rattle.effects.specs.declared.kinds.Effect.{Effect}
 use Rattle.block.specs.Table.{coreOf, unitOf, registerOf, withRegister, withCore}
 use Rattle.block.specs.Sound as S
@@ -34,19 +34,12 @@ use Rattle.parts.proofs.Bools.{and-left, clash}
 use Rattle.parts.proofs.Folds.{count-cong, at-some}
 use Rattle.block.proofs.Access.{unit-other}
 use Rattle.block.proofs.Parts.{parts}
+use Rattle.block.proofs.Suited.{live-busy, stands-live}
 use Rattle.block.proofs.Touched.{Calm, Quiet, QuietTable}
 use Rattle.block.proofs.Standing.{first-in, second-after, bare-one, bare-two, sound-quiet}
 use Rattle.block.proofs.Touching.{giveUp-one, giveUp-two}
 
--- a core that stands or waits has a ticket
-standing-live : (z : State) → stands z ≡ true → isIdle z ≡ false
-standing-live Idle e = absurd (clash e refl)
-standing-live Waiting e = refl
-standing-live Holding e = refl
-standing-live WaitingSecond e = refl
-standing-live HoldingBoth e = refl
-standing-live Away e = refl
-
+-- a core that waits stands
 pub waiting-stands : (z : State) → waits z ≡ true → stands z ≡ true
 waiting-stands Idle e = e
 waiting-stands Waiting e = refl
@@ -54,6 +47,8 @@ waiting-stands Holding e = refl
 waiting-stands WaitingSecond e = refl
 waiting-stands HoldingBoth e = refl
 waiting-stands Away e = e
+waiting-stands Marked e = refl
+waiting-stands Dropped e = e
 
 -- a changed register leaves the other units quiet
 pub quiet-elsewhere :
@@ -73,7 +68,7 @@ module _ (t : Table) (k : ℕ) (h : k < cores) (s : sound t ≡ true) (at : stan
   was = coreOf t k
 
   live : isIdle (was .state) ≡ false
-  live = standing-live (was .state) at
+  live = live-busy (was .state) (stands-live (was .state) at)
 
   pub first-unit : was .first .0 < units
   first-unit = first-in t (parts t s) k h live
@@ -130,6 +125,23 @@ poll-cases t k Q set heirs stands = go (registerOf t (awaited c) (k .0) .flag) r
     go true e two f = set e
     go false e true f = heirs e f
     go false e false f = stands e f
+
+-- the effect of coming back, by what the core is: away in T; in D still registered, or dropped
+pub come-cases :
+    (m : Ticket) (c : Core) (Q : Effect → Type 0) →
+    (c .state ≡ Away → Q (enterAgain m c)) →
+    (c .state ≡ Marked → Q (goOn m c)) →
+    (c .state ≡ Dropped → Q (request (c .first) m)) →
+    (c .state ≡ Away) ⊎ (c .state ≡ Marked) ⊎ (c .state ≡ Dropped) →
+    Q (comeBack m c)
+come-cases m c Q away marked gone =
+    ⊎-elim (λ e. is Away e (away e)) (λ y. ⊎-elim (λ e. is Marked e (marked e)) (λ e. is Dropped e (gone e)) y)
+  where
+    by : State → Effect
+    by z = cond (isDropped z) (request (c .first) m) (cond (isMarked z) (goOn m c) (enterAgain m c))
+
+    is : (z : State) → c .state ≡ z → Q (by z) → Q (comeBack m c)
+    is z e = subst (λ (y : State). Q (by y)) (sym e)
 
 -- a core written as it was
 pub same-core : (t : Table) (k : ℕ) → withCore t k (coreOf t k) ≡ t

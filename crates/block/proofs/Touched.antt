@@ -1,6 +1,7 @@
 -- A step by the one or two units that it touches: only those settle. That this is the settling of all units is shown where no other
 -- unit has anything to settle.
 use Prim.Native.Nat.{ℕ, _<_}
+use mathlib.Core.Bool.{false}
 use mathlib.Core.List.{_++_}
 use mathlib.Core.Path.{_≡_}
 use Rattle.ticket.specs.declared.kinds.CoreNo.{CoreNo}
@@ -17,6 +18,7 @@ use Rattle.settling.specs.Line.{flags, next, won}
 use Rattle.settling.specs.declared.line.Best.{Best}
 use Rattle.settling.specs.declared.line.Best.the-variants.{Nobody}
 use Rattle.settling.specs.Shown.{shown}
+use Rattle.settling.specs.Dropping.{dropping, awayNext}
 use Rattle.settling.specs.Settle.{given, changed}
 use Rattle.settling.specs.declared.settle.Change.{Change}
 use Rattle.block.specs.Table.{unitOf, withRegister, withCore}
@@ -34,7 +36,14 @@ Quiet x = Calm x × (shown cores x ≡ x)
 abbrev pub QuietTable : Table → Type 0
 QuietTable t = (u : ℕ) → u < units → Quiet (unitOf t u)
 
--- a table of which one unit settled, and the core that it granted
+-- whoever unit u would grant is not away: it drops nobody; and so everywhere in a table
+abbrev pub Present : Table → ℕ → Type 0
+Present t u = flags cores (unitOf t u) ≡ 0 → awayNext cores (dropping (unitOf t u) (t .cores)) ≡ false
+
+abbrev pub AllPresent : Table → Type 0
+AllPresent t = (u : ℕ) → u < units → Present t u
+
+-- a table of which one unit settled without a drop, and the core that it granted
 pub record SettledAt : Type 0 where
   pub table : Table
   pub winner : Best

@@ -4,5 +4,6 @@ pub mod Sound
 pub mod Parts
 pub mod Steps
 pub mod PutBack
+pub mod Skipping
 pub mod Apart
 pub mod Over

@@ -11,7 +11,9 @@ use Rattle.block.specs.declared.table.Table.{Table}
 
 pub record CoreSound (t : Table) (k : ℕ) : Type 0 where
   pub within : S.within t k ≡ true
+  pub suited : S.suited t (coreOf t k) ≡ true
   pub idleBlank : S.idleBlank (coreOf t k) ≡ true
+  pub droppedBlank : S.droppedBlank (coreOf t k) ≡ true
   pub named : S.named t (coreOf t k) ≡ true
   pub recent : S.recent t (coreOf t k) ≡ true
   pub differ : (j : ℕ) → j < cores → S.differ t k j ≡ true

@@ -10,11 +10,14 @@ use Rattle.soundness.specs.Sound as S
 use Rattle.block.specs.Table.{coreOf, unitOf}
 use Rattle.block.specs.declared.table.Table.{Table}
 -- what speaks of no table
-pub use Rattle.soundness.specs.Agreement.{isBlank, shows, agrees, anyValid, oneFlag}
-pub use Rattle.soundness.specs.Sound.{idleBlank, lends}
+pub use Rattle.soundness.specs.Agreement.{isBlank, shows, flagless, agrees, anyValid, oneFlag}
+pub use Rattle.soundness.specs.Sound.{idleBlank, droppedBlank, lends}
 
 abbrev pub within : Table → ℕ → Bool
 within t k = S.within (t .counts) k (coreOf t k)
+
+abbrev pub suited : Table → Core → Bool
+suited t c = S.suited (t .counts) c
 
 abbrev pub names : Table → Core → Bool → Bool
 names t c two = S.names (t .counts) c two

@@ -43,7 +43,7 @@ abbrev pub effectOn : Table → Step → Effect
 effectOn t s =
     let k = whose s .0 in
     let c = coreOf t k in
-    stepEffect s (t .counter) c (registerOf t (awaited c) k .flag) (next cores (unitOf t (c .first .0)))
+    stepEffect (t .counts .profile) s (t .counter) c (registerOf t (awaited c) k .flag) (next cores (unitOf t (c .first .0)))
 
 -- "gives up every register"
 abbrev pub clear : ℕ → ℕ → Table → Table

@@ -30,14 +30,14 @@ impl Table {
         self.step(Step::P(k))
     }
 
-    // I: gives up every register, carried ticket becomes the own one, away.
+    // I: gives up every register, carried ticket becomes the own one, away. In D it stays in line, away; with its flag set it is dropped.
     pub fn interrupt(self, k: CoreNo) -> Stepped
         ensures { λ r. ⌜ r ≡ step self (Step.I k) ⌝ }
     {
         self.step(Step::I(k))
     }
 
-    // C: enters its first unit again with its own ticket, waits.
+    // C: enters its first unit again with its own ticket, waits. In D it is still in line; one that was dropped requests again.
     pub fn come_back(self, k: CoreNo) -> Stepped
         ensures { λ r. ⌜ r ≡ step self (Step.C k) ⌝ }
     {

@@ -3,6 +3,7 @@ use crate::stepped::Stepped;
 use crate::stepped::refused;
 use crate::table::Table;
 use parts::Answer;
+use parts::Core;
 use parts::Step;
 use places::core_place;
 use places::other_place;
@@ -17,7 +18,7 @@ use settling::Change;
 use settling::changed;
 use ticket::CoreNo;
 use ticket::UnitNo;
-ghost use mathlib.Core.Bool.{true};
+ghost use mathlib.Core.Bool.{true, false};
 ghost use mathlib.Core.Path.{_≡_};
 ghost use Prim.Native.Nat.{_≤_, _<_};
 ghost use Rattle.parts.specs.Parts.{cores, units};
@@ -27,6 +28,7 @@ ghost use Rattle.block.specs.Steps.{late, onSound, step};
 ghost use Rattle.refusals.specs.Tickets.{asked};
 ghost use Rattle.settling.specs.Line.{Within};
 ghost use Rattle.plan.specs.Plan.{partOf};
+ghost use Rattle.block.specs.Skipping.{skips};
 ghost use Rattle.block.specs.PutBack.{withChange, withUnits, putBack};
 
 impl Table {
@@ -41,10 +43,20 @@ impl Table {
         }
     }
 
-    // Seam: one step of a table known to be sound, which is not checked again. What it reads of the core that the step
-    // names and of the units at its places is planned, and the plan is put back.
+    // Seam: one step of a table known to be sound, which is not checked again. Those whom the unit would drop when it
+    // settles are dropped first.
     pub fn step_sound(self, s: Step) -> Stepped
         requires { ⌜ sound self ≡ true ⌝ }
+        ensures { λ r. ⌜ r ≡ onSound self s ⌝ }
+    {
+        let t = self.skipped(s);
+        t.worked(s)
+    }
+
+    // One step of a sound table of which settling then drops nobody. What it reads of the core that the step names and of
+    // the units at its places is planned, and the plan is put back.
+    fn worked(self, s: Step) -> Stepped
+        requires { ⌜ (sound self ≡ true) × (skips self s ≡ false) ⌝ }
         ensures { λ r. ⌜ r ≡ onSound self s ⌝ }
     {
         let k = core_place(s);
@@ -56,22 +68,22 @@ impl Table {
         let y = self.read(j, k);
         let counts = self.counts;
         let counter = self.counter;
-        let late = self.late(s);
+        let late = self.late(s, c);
         let p = plan_step(s, counts, counter, late, c, x, y);
         self.put_back(k, i, j, p)
     }
 
-    // Whether a live ticket is stretched, if the step's verdict asks it.
-    fn late(self, s: Step) -> bool
+    // Whether a live ticket is stretched, if the verdict of a step of the core c asks it.
+    fn late(self, s: Step, c: Core) -> bool
         requires { ⌜ self .counts .cores ≤ cores ⌝ }
-        ensures { λ r. ⌜ r ≡ asked s (late self) ⌝ }
+        ensures { λ r. ⌜ r ≡ asked s c (late self) ⌝ }
     {
         let counts = self.counts;
         let counter = self.counter;
         let all = self.cores;
         let lives = lives_of(all);
         let owns = owns_of(all);
-        late_for(s, counts, counter, &lives, &owns)
+        late_for(s, c, counts, counter, &lives, &owns)
     }
 
     // What a step of core k reads of unit u.

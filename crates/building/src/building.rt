@@ -3,6 +3,8 @@ use block::Table;
 use parts::Answer;
 use parts::CORES;
 use parts::Counts;
+use parts::Fill;
+use parts::Profile;
 use parts::UNITS;
 use parts::empty_unit;
 use parts::idle;
@@ -46,6 +48,8 @@ pub fn build(counts: Counts, counter: Ticket) -> Built
             cores: 1,
             first: 1,
             second: 0,
+            profile: Profile::T,
+            fill: Fill::Blank,
         };
         Built {
             table: fresh(least, Ticket(0)),

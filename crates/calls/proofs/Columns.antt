@@ -15,8 +15,7 @@ use Rattle.parts.specs.Range.{inRange}
 use Rattle.block.specs.Over.{over}
 use Rattle.parts.specs.declared.answer.Step.{Step}
 use Rattle.parts.specs.declared.kinds.Counts.{Counts}
-use Rattle.lines.specs.Bytes.{letterT}
-use Rattle.writing.specs.Writing.{stepBytes, headerBytes}
+use Rattle.writing.specs.Writing.{stepBytes, scriptHeader}
 use Rattle.writing.proofs.AsWritten.{step-read-is-written, header-read-is-written}
 use Rattle.stops.specs.declared.run.Stop.{Stop}
 use Rattle.walks.specs.Walk.{Reply, Desk, replied, Ended, walked}
@@ -86,7 +85,7 @@ columns-written d s =
 -- The header
 
 abbrev Opened : Desk Known → List ℕ → Desk Known → Type 0
-Opened d s e = (c : Counts) × (n : Ticket) × (inRange c ≡ true) × Columned s (d .place) (headerBytes letterT c n) (headerWorked d c n) e
+Opened d s e = (c : Counts) × (n : Ticket) × (inRange c ≡ true) × Columned s (d .place) (scriptHeader c n) (headerWorked d c n) e
 
 opening-worked :
     (d e : Desk Known) (s : List ℕ) (a : Reply Known) →
@@ -94,7 +93,7 @@ opening-worked :
     Columned s (d .place + a .used) [] (replied d a) e →
     Opened d s e
 opening-worked d e s a y later =
-    let line = headerBytes letterT (y .c) (y .n) in
+    let line = scriptHeader (y .c) (y .n) in
     let k = header-read-is-written (drop (d .place) s) 0 (y .c) (y .n) (a .used) (y .read) in
     let long : a .used ≡ length line = omega (arith, k .0 .1) in
     let is : a ≡ headerReply (d .state) (y .c) (y .n) (length line) = y .is ∙ ap (headerReply (d .state) (y .c) (y .n)) long in

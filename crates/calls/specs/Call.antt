@@ -12,10 +12,9 @@ use Rattle.block.specs.Steps.{step}
 use Rattle.parts.specs.declared.answer.Step.{Step}
 use Rattle.parts.specs.declared.kinds.Counts.{Counts}
 use Rattle.block.specs.declared.table.Table.{Table}
-use Rattle.lines.specs.Bytes.{letterE}
 use Rattle.headers.specs.Header.{readHeader}
 use Rattle.expected.specs.Expected.{expectedBytes}
-use Rattle.writing.specs.Writing.{headerBytes}
+use Rattle.writing.specs.Writing.{outputHeader}
 use Rattle.headers.specs.declared.reading.HeaderLine.{HeaderLine}
 use Rattle.headers.specs.declared.reading.HeaderLine.the-variants.{Header, BadHeader as NoHeader, Unfinished as CutHeader}
 use Rattle.stops.specs.declared.todo.Todo.{Todo}
@@ -47,7 +46,7 @@ stepReply q x used =
 
 -- the header's line, and the fresh table
 abbrev pub headerReply : Known → Counts → Ticket → ℕ → Reply Known
-headerReply q c n used = record { used = used; said = headerBytes letterE c n; also = []; then = working (build c n .table) (q .steps) }
+headerReply q c n used = record { used = used; said = outputHeader c n; also = []; then = working (build c n .table) (q .steps) }
 
 -- what a line asks for, or why the run stops there whatever the room
 abbrev pub stepAsked : Known → Todo → Reply Known ⊎ Stop

@@ -8,8 +8,7 @@ use mathlib.Core.Path.{_≡_}
 use Rattle.ticket.specs.declared.kinds.Ticket.{Ticket}
 use Rattle.parts.specs.Range.{inRange}
 use Rattle.parts.specs.declared.kinds.Counts.{Counts}
-use Rattle.lines.specs.Bytes.{letterT}
-use Rattle.writing.specs.Writing.{headerBytes}
+use Rattle.writing.specs.Writing.{scriptHeader}
 use Rattle.walks.specs.Walk.{Steady, Desk, walked}
 use Rattle.calls.specs.Call.{Known, translation}
 use Rattle.calls.specs.Columns.{headerWorked, Columned}
@@ -28,4 +27,4 @@ OpeningWritten =
     (d : Desk Known) (s : List ℕ) →
     d .state .headed ≡ false →
     let e = walked translation d s .desk in
-    (e ≡ d) ⊎ ((c : Counts) × (n : Ticket) × (inRange c ≡ true) × Columned s (d .place) (headerBytes letterT c n) (headerWorked d c n) e)
+    (e ≡ d) ⊎ ((c : Counts) × (n : Ticket) × (inRange c ≡ true) × Columned s (d .place) (scriptHeader c n) (headerWorked d c n) e)

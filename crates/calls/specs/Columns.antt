@@ -8,8 +8,7 @@ use Rattle.ticket.specs.declared.kinds.Ticket.{Ticket}
 use Rattle.block.specs.Over.{lastPlace}
 use Rattle.parts.specs.declared.answer.Step.{Step}
 use Rattle.parts.specs.declared.kinds.Counts.{Counts}
-use Rattle.lines.specs.Bytes.{letterT}
-use Rattle.writing.specs.Writing.{stepBytes, headerBytes}
+use Rattle.writing.specs.Writing.{stepBytes, scriptHeader}
 use Rattle.walks.specs.Walk.{Desk, replied}
 use Rattle.calls.specs.Call.{Known, stepReply, headerReply}
 
@@ -23,7 +22,7 @@ abbrev pub stepWorked : Desk Known → Step → Desk Known
 stepWorked d x = replied d (stepReply (d .state) x (length (stepBytes x)))
 
 abbrev pub headerWorked : Desk Known → Counts → Ticket → Desk Known
-headerWorked d c n = replied d (headerReply (d .state) c n (length (headerBytes letterT c n)))
+headerWorked d c n = replied d (headerReply (d .state) c n (length (scriptHeader c n)))
 
 -- from a place of the script s on stand these bytes and the lines of steps, and the desk e is d after those steps
 pub record Columned (s : List ℕ) (place : ℕ) (opening : List ℕ) (d e : Desk Known) : Type 0 where

@@ -9,12 +9,11 @@ use Rattle.block.specs.Sound.{sound}
 use Rattle.block.specs.Steps.{step}
 use Rattle.parts.specs.declared.answer.Step.{Step}
 use Rattle.block.specs.declared.table.Table.{Table}
-use Rattle.lines.specs.Bytes.{letterE}
 use Rattle.headers.specs.Header.{readHeader}
 use Rattle.digits.specs.Text.{pasted}
 use Rattle.digits.specs.Room.{fits}
 use Rattle.expected.specs.Expected.{expectedBytes}
-use Rattle.writing.specs.Writing.{headerBytes}
+use Rattle.writing.specs.Writing.{outputHeader}
 use Rattle.headers.specs.declared.reading.HeaderLine.{HeaderLine}
 use Rattle.headers.specs.declared.reading.HeaderLine.the-variants.{Header, BadHeader as NoHeader, Unfinished as CutHeader}
 use Rattle.stops.specs.declared.todo.Todo.{Todo}
@@ -48,7 +47,7 @@ abbrev pub worked : Run → List ℕ → Todo → Desk Known ⊎ Stop
 worked r out w = elim w [ Work x next ↦ stepped r out x next | Halt why ↦ inr why ]
 
 abbrev pub opening : Run → List ℕ → HeaderLine → Desk Known ⊎ Stop
-opening r out (Header c n next) = answered r out (headerBytes letterE c n) next (build c n .table) (r .steps)
+opening r out (Header c n next) = answered r out (outputHeader c n) next (build c n .table) (r .steps)
 opening r out NoHeader = inr BadHeader
 opening r out CutHeader = inr Unfinished
 

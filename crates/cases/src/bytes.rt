@@ -1,9 +1,37 @@
-// Numbers in a case, lowest byte first. What lies past the end reads as 0.
+// The letter of a case and its profile; numbers in a case, lowest byte first. What lies past the end reads as 0.
+use parts::Profile;
 ghost use Prim.Native.Nat.{_<_};
 
 // The letter of a case.
 pub(crate) fn letter(s: &[u8]) -> u8 {
     if 0 < s.len() { s[0] } else { 0 }
+}
+
+// The letter of the same case of profile T.
+pub(crate) fn capital(s: &[u8]) -> u8 {
+    let letter = letter(s);
+    if letter == b's' {
+        return b'S';
+    }
+    if letter == b'm' {
+        return b'M';
+    }
+    if letter == b'i' {
+        return b'I';
+    }
+    if letter == b'o' {
+        return b'O';
+    }
+    if letter == b'h' { b'H' } else { letter }
+}
+
+// The profile of a case's counts.
+pub(crate) fn profile(s: &[u8]) -> Profile {
+    if letter(s) == capital(s) {
+        Profile::T
+    } else {
+        Profile::D
+    }
 }
 
 pub(crate) fn wide(b: u8) -> u16

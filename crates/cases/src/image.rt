@@ -1,5 +1,6 @@
 // Images: words read as units, and units written as words.
 use crate::bytes::half;
+use crate::bytes::letter;
 use crate::bytes::word;
 use crate::next::put_next;
 use crate::register::put_register;
@@ -63,7 +64,7 @@ fn reading(s: &[u8], ws: &mut [u32], out: &mut [u8], wrote: usize) -> usize {
     let x = images::read_image(c, ws);
     let a = x.answer;
     let n = image_number(a);
-    let to = head(out, wrote, b"I", n);
+    let to = head(out, wrote, letter(s), n);
     if n != 0 {
         return to;
     }
@@ -119,7 +120,7 @@ pub(crate) fn answer_writing(s: &[u8], out: &mut [u8], wrote: usize) -> usize {
 fn writing(s: &[u8], ws: &mut [u32], out: &mut [u8], wrote: usize) -> usize {
     let a = images::write_image(counts(s), units(s, IMAGE_UNITS), ws);
     let n = image_number(a);
-    let to = head(out, wrote, b"O", n);
+    let to = head(out, wrote, letter(s), n);
     if n != 0 {
         return to;
     }

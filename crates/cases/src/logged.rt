@@ -16,7 +16,7 @@ pub(crate) fn answer(s: &[u8], out: &mut [u8], wrote: usize) -> usize {
     let why = c.why;
     let stands = c.run;
     let n = log_number(why);
-    let to = head(out, wrote, b"G", n as u32);
+    let to = head(out, wrote, b'G', n as u32);
     if n == 0 {
         return field(out, to, stands.steps);
     }

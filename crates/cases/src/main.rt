@@ -13,7 +13,7 @@
 //   number; then for 40 the line and the field, for 0 the steps that agreed, for any other the line.
 // - S: a table. u16 cores, first-class units, second-class units and counter; `CORES` cores of u16 own,
 //   carried, first and second and u8 state (0 idle, 1 waiting, 2 holding, 3 waiting second, 4 holding
-//   both, from 5 on away); 16 units. `S`, and 1 if it is sound, else 0.
+//   both, 5 away, 6 marked, from 7 on dropped); 16 units. `S`, and 1 if it is sound, else 0.
 // - M: a step by a method of the table. The table as in S; u8 letter (0 R, 1 N, 2 P, 3 I, 4 C, from 5 on
 //   L), u16 core and u16 unit, which R and N alone read. `M`, the answer's number, ticket, number of
 //   grants, unit and core of each; and the table handed back, its numbers in the order of S.
@@ -30,6 +30,8 @@
 //   (by its place among 0, 1, 2, 10 to 16 and 20, from 10 on 20), u16 ticket, u8 number of grants (from
 //   2 on 2), and two times u16 unit and u16 core. The letter; 20, 23, or 0 and the next place; and
 //   each byte lent, as a number.
+// - s, m, i, o and h: as the capital letters, for a table, counts or a header of profile D; those are of
+//   profile T. The answer has the case's letter.
 //
 // A case that the end of the input cuts off, another letter, a number of words above 600 and one of bytes
 // lent above 64 end the program.
@@ -184,7 +186,7 @@ fn next_case(s: &[u8], at: usize, out: &mut [u8], wrote: usize) -> Found {
 // How many bytes the case at the front has, 0 for none. Where not even its lengths are all there, it is
 // more than there are.
 fn size(s: &[u8]) -> usize {
-    let letter = bytes::letter(s);
+    let letter = bytes::capital(s);
     if letter == b'T' {
         return 3 + half(s, 1) as usize;
     }
@@ -246,7 +248,7 @@ fn answer_line(s: &[u8], out: &mut [u8], wrote: usize) -> usize {
 }
 
 fn answer(s: &[u8], out: &mut [u8], wrote: usize) -> usize {
-    let letter = bytes::letter(s);
+    let letter = bytes::capital(s);
     if letter == b'T' {
         return scripts::answer(s, out, wrote);
     }

@@ -1,6 +1,7 @@
 // A step by a method of the table, and the table that it hands back.
 use crate::bytes::byte;
 use crate::bytes::half;
+use crate::bytes::letter;
 use crate::next::put_next;
 use crate::register::put_register;
 use crate::table::TABLE_SIZE;
@@ -29,7 +30,7 @@ pub(crate) fn answer(s: &[u8], out: &mut [u8], wrote: usize) -> usize {
         UnitNo(half(s, TABLE_SIZE + 3)),
     );
     let a = x.answer;
-    let to = head(out, wrote, b"M", parts::number(a) as u32);
+    let to = head(out, wrote, letter(s), parts::number(a) as u32);
     let n = x.ticket;
     let to = field(out, to, n.0 as u32);
     let gs = x.grants;
@@ -132,6 +133,8 @@ fn state_number(s: State) -> u32 {
         State::WaitingSecond => 3,
         State::HoldingBoth => 4,
         State::Away => 5,
+        State::Marked => 6,
+        State::Dropped => 7,
     }
 }
 

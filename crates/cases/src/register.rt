@@ -28,16 +28,19 @@ pub(crate) fn put_register(out: &mut [u8], at: usize, r: Register) -> usize {
 pub(crate) fn answer_word(s: &[u8], out: &mut [u8], wrote: usize) -> usize {
     match words::unpack(word(s, 1)) {
         Unpacked::Register(r) => {
-            let to = head(out, wrote, b"W", 0);
+            let to = head(out, wrote, b'W', 0);
             put_register(out, to, r)
         }
-        Unpacked::Refused => head(out, wrote, b"W", 30),
+        Unpacked::Refused => head(out, wrote, b'W', 30),
     }
 }
 
 pub(crate) fn answer_register(s: &[u8], out: &mut [u8], wrote: usize) -> usize {
     match words::pack(register(s, 1)) {
-        Packed::Word(w) => head(out, wrote, b"P\t0", w),
-        Packed::Refused => head(out, wrote, b"P", 30),
+        Packed::Word(w) => {
+            let to = head(out, wrote, b'P', 0);
+            field(out, to, w)
+        }
+        Packed::Refused => head(out, wrote, b'P', 30),
     }
 }

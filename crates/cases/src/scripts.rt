@@ -45,7 +45,7 @@ fn call_once(script: &[u8], space: &mut [u8], out: &mut [u8], wrote: usize) -> u
     let why = x.why;
     let stands = x.run;
     let n = stops::stop_number(why);
-    let to = head(out, wrote, b"B", n as u32);
+    let to = head(out, wrote, b'B', n as u32);
     long_field(out, to, stands.wrote as u64)
 }
 
@@ -89,6 +89,6 @@ fn end(out: &mut [u8], wrote: usize, n: u32) -> usize {
     if n == 0 {
         return put(out, at, b"--");
     }
-    let to = head(out, at, b"X", n);
+    let to = head(out, at, b'X', n);
     put(out, to, b"\n--")
 }

@@ -1,6 +1,8 @@
 // A table as it stands in a case, and whether it is sound.
 use crate::bytes::byte;
 use crate::bytes::half;
+use crate::bytes::letter;
+use crate::bytes::profile;
 use crate::next::next;
 use crate::register::register;
 use crate::text::bit;
@@ -43,7 +45,7 @@ pub(crate) const IMAGE_SIZE: usize = IMAGE_UNITS + UNIT * UNITS;
 
 pub(crate) fn answer(s: &[u8], out: &mut [u8], wrote: usize) -> usize {
     let t = table(s);
-    head(out, wrote, b"S", bit(t.sound()))
+    head(out, wrote, letter(s), bit(t.sound()))
 }
 
 // The table, which stands first in a case.
@@ -56,12 +58,14 @@ pub(crate) fn table(s: &[u8]) -> Table {
     }
 }
 
-// The counts, which stand first in a case.
+// The counts, which stand first in a case; its letter gives the profile.
 pub(crate) fn counts(s: &[u8]) -> Counts {
     Counts {
         cores: half(s, 1),
         first: half(s, 3),
         second: half(s, 5),
+        profile: profile(s),
+        fill: Fill::Blank,
     }
 }
 
@@ -105,9 +109,15 @@ fn state(n: u16) -> State {
         return State::WaitingSecond;
     }
     if n == 4 {
-        State::HoldingBoth
+        return State::HoldingBoth;
+    }
+    if n == 5 {
+        return State::Away;
+    }
+    if n == 6 {
+        State::Marked
     } else {
-        State::Away
+        State::Dropped
     }
 }
 

@@ -53,8 +53,17 @@ pub(crate) fn bit(b: bool) -> u32 {
     if b { 1 } else { 0 }
 }
 
+// A byte at a place, if there is room.
+fn put_byte(out: &mut [u8], at: usize, b: u8) -> usize {
+    if out.len() <= at {
+        return at;
+    }
+    out[at] = b;
+    at + 1
+}
+
 // A letter and a number.
-pub(crate) fn head(out: &mut [u8], at: usize, letter: &[u8], n: u32) -> usize {
-    let to = put(out, at, letter);
+pub(crate) fn head(out: &mut [u8], at: usize, letter: u8, n: u32) -> usize {
+    let to = put_byte(out, at, letter);
     field(out, to, n)
 }

@@ -1,7 +1,9 @@
 // A line by one of the writers' functions, into lent bytes.
 use crate::bytes::byte;
+use crate::bytes::capital;
 use crate::bytes::half;
 use crate::bytes::letter;
+use crate::bytes::profile;
 use crate::bytes::wide;
 use crate::bytes::word;
 use crate::text::field;
@@ -10,6 +12,7 @@ use crate::text::long_field;
 use digits::Written;
 use parts::Answer;
 use parts::Counts;
+use parts::Fill;
 use parts::Grants;
 use parts::Step;
 use ticket::CoreNo;
@@ -40,20 +43,20 @@ pub(crate) fn answer(s: &[u8], out: &mut [u8], wrote: usize) -> usize {
 
 // The answer of the letter's function, and the bytes lent as they are then.
 fn answer_in(s: &[u8], lent: &mut [u8], out: &mut [u8], wrote: usize) -> usize {
-    let letter = letter(s);
+    let x = written(s, lent);
+    let to = put_written(out, wrote, letter(s), x);
+    put_bytes(out, to, lent)
+}
+
+fn written(s: &[u8], lent: &mut [u8]) -> Written {
+    let letter = capital(s);
     if letter == b'H' {
-        let x = header(s, lent);
-        let to = put_written(out, wrote, b"H", x);
-        return put_bytes(out, to, lent);
+        return header(s, lent);
     }
     if letter == b'L' {
-        let x = step(s, lent);
-        let to = put_written(out, wrote, b"L", x);
-        return put_bytes(out, to, lent);
+        return step(s, lent);
     }
-    let x = expected(s, lent);
-    let to = put_written(out, wrote, b"E", x);
-    put_bytes(out, to, lent)
+    expected(s, lent)
 }
 
 // The place, which stands second in a case of the writers.
@@ -66,6 +69,8 @@ fn header(s: &[u8], lent: &mut [u8]) -> Written {
         cores: half(s, 5),
         first: half(s, 7),
         second: half(s, 9),
+        profile: profile(s),
+        fill: Fill::Blank,
     };
     writing::write_header(lent, place(s), counts, Ticket(half(s, 11)))
 }
@@ -166,7 +171,7 @@ fn grant(s: &[u8], at: usize) -> Grant {
 }
 
 // The number of a writer's answer, and the next place if it wrote.
-fn put_written(out: &mut [u8], at: usize, letter: &[u8], x: Written) -> usize {
+fn put_written(out: &mut [u8], at: usize, letter: u8, x: Written) -> usize {
     match x {
         Written::Next(n) => {
             let to = head(out, at, letter, 0);

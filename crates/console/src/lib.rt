@@ -158,9 +158,9 @@ fn reason(why: Stop, text: Text) {
 }
 
 fn bad_header() {
-    say(b"not a header T with 1 to ");
+    say(b"not a header T or D with 1 to ");
     say_number(CORES as u64);
-    say(b" cores, 1 to 8 and 0 to 8 units, and a counter (20)\n");
+    say(b" cores, 1 to 8 and 0 to 8 units, in D 0, and a counter (20)\n");
 }
 
 fn malformed(text: Text) {

@@ -1,5 +1,5 @@
--- "The steps": the effect of each when it is allowed. m is the counter and c the core that the step names; for P also whether the flag
--- that it waits for is set, and who is next in line at its first unit.
+-- "The steps", and "The dequeueing profile": the effect of each step when it is allowed. p is the table's profile, m the counter and c the core
+-- that the step names; for P also whether the flag that it waits for is set, and who is next in line at its first unit; for I in D the flag too.
 use mathlib.Core.Bool.{Bool, true, false, cond}
 use Rattle.ticket.specs.Kinds.{ticket}
 use Rattle.ticket.specs.Order.{compare, after}
@@ -7,11 +7,13 @@ use Rattle.ticket.specs.declared.kinds.Ticket.{Ticket}
 use Rattle.ticket.specs.declared.kinds.UnitNo.{UnitNo}
 use Rattle.ticket.specs.declared.order.Comparison.{Comparison}
 use Rattle.ticket.specs.declared.order.Comparison.the-variants.{Older, Younger, Same, Opposite}
-use Rattle.parts.specs.State.{twoStage}
-use Rattle.parts.specs.Parts.{unitNo, idle, core}
+use Rattle.parts.specs.State.{twoStage, isMarked, isDropped}
+use Rattle.parts.specs.Parts.{unitNo, idle, core, dropped}
 use Rattle.parts.specs.declared.kinds.Core.{Core}
+use Rattle.parts.specs.declared.kinds.Profile.{Profile}
+use Rattle.parts.specs.declared.kinds.Profile.the-variants.{T, D}
 use Rattle.parts.specs.declared.kinds.State.{State}
-use Rattle.parts.specs.declared.kinds.State.the-variants.{Idle, Waiting, Holding, WaitingSecond, HoldingBoth, Away}
+use Rattle.parts.specs.declared.kinds.State.the-variants.{Idle, Waiting, Holding, WaitingSecond, HoldingBoth, Away, Marked, Dropped}
 use Rattle.parts.specs.declared.answer.Answer.{Answer}
 use Rattle.parts.specs.declared.answer.Answer.the-variants.{Done, Granted, NotYet}
 use Rattle.parts.specs.declared.answer.Step.{Step}
@@ -34,13 +36,37 @@ request u m = makes (core m m u (unitNo 0) Waiting) (Enter u m) Done m (ticket (
 abbrev pub nest : UnitNo → Ticket → Core → Effect
 nest u m c = makes (core (c .own) (c .own) (c .first) u WaitingSecond) (Enter u (c .own)) Done (c .own) m
 
--- I: "gives up every register, carried ticket becomes the own one, away"
-abbrev pub interrupt : Ticket → Core → Effect
-interrupt m c = makes (core (c .own) (c .own) (c .first) (unitNo 0) Away) GiveUp Done (c .own) m
+-- I in T: "gives up every register, carried ticket becomes the own one, away"
+abbrev pub callOff : Ticket → Core → Effect
+callOff m c = makes (core (c .own) (c .own) (c .first) (unitNo 0) Away) GiveUp Done (c .own) m
+
+-- I in D: "a core interrupted with its flag set gives the unit up and counts as dropped"; "I and L report the core's ticket even where it just
+-- ended"
+abbrev pub countsDropped : Ticket → Core → Effect
+countsDropped m c = makes (dropped c) GiveUp Done (c .own) m
+
+-- "an interrupted waiter without a flag stays registered, marked away"
+abbrev pub markedAway : Ticket → Core → Effect
+markedAway m c = makes (core (c .own) (c .own) (c .first) (unitNo 0) Marked) Stay Done (c .own) m
+
+abbrev pub dequeue : Ticket → Core → Bool → Effect
+dequeue m c flag = cond flag (countsDropped m c) (markedAway m c)
+
+-- I, by the profile
+abbrev pub interrupt : Profile → Ticket → Core → Bool → Effect
+interrupt p m c flag = elim p [ T ↦ callOff m c | D ↦ dequeue m c flag ]
 
 -- C: "enters its first unit again with its own ticket, waits"
+abbrev pub enterAgain : Ticket → Core → Effect
+enterAgain m c = makes (core (c .own) (c .own) (c .first) (unitNo 0) Waiting) (Enter (c .first) (c .own)) Done (c .own) m
+
+-- "on C a core still registered goes on waiting"
+abbrev pub goOn : Ticket → Core → Effect
+goOn m c = makes (core (c .own) (c .own) (c .first) (unitNo 0) Waiting) Stay Done (c .own) m
+
+-- "a dropped one takes a new ticket and joins again"
 abbrev pub comeBack : Ticket → Core → Effect
-comeBack m c = makes (core (c .own) (c .own) (c .first) (unitNo 0) Waiting) (Enter (c .first) (c .own)) Done (c .own) m
+comeBack m c = cond (isDropped (c .state)) (request (c .first) m) (cond (isMarked (c .state)) (goOn m c) (enterAgain m c))
 
 -- L: "gives up every register, ticket ends, idle"; it reports "the own ticket just ended"
 abbrev pub release : Ticket → Core → Effect
@@ -49,7 +75,7 @@ release m c = makes idle GiveUp Done (c .own) m
 -- P: "flag set: now holds it, answer 1"
 abbrev pub served : State → State
 served z =
-    elim z [ Idle ↦ Idle | Waiting ↦ Holding | Holding ↦ Holding | WaitingSecond ↦ HoldingBoth | HoldingBoth ↦ HoldingBoth | Away ↦ Away ]
+    elim z [ Idle ↦ Idle | Waiting ↦ Holding | Holding ↦ Holding | WaitingSecond ↦ HoldingBoth | HoldingBoth ↦ HoldingBoth | Away ↦ Away | Marked ↦ Marked | Dropped ↦ Dropped ]
 
 abbrev pub hold : Ticket → Core → Effect
 hold m c = makes (core (c .own) (c .carried) (c .first) (c .second) (served (c .state))) Stay Granted (c .carried) m
@@ -75,10 +101,10 @@ wait m c = makes c Stay NotYet (c .carried) m
 abbrev pub poll : Ticket → Core → Bool → Best → Effect
 poll m c flag next = cond flag (hold m c) (cond (twoStage (c .state)) (inherit m c (heir (c .own) next)) (wait m c))
 
-abbrev pub stepEffect : Step → Ticket → Core → Bool → Best → Effect
-stepEffect (R k u) m c flag next = request u m
-stepEffect (N k u) m c flag next = nest u m c
-stepEffect (P k) m c flag next = poll m c flag next
-stepEffect (I k) m c flag next = interrupt m c
-stepEffect (C k) m c flag next = comeBack m c
-stepEffect (L k) m c flag next = release m c
+abbrev pub stepEffect : Profile → Step → Ticket → Core → Bool → Best → Effect
+stepEffect p (R k u) m c flag next = request u m
+stepEffect p (N k u) m c flag next = nest u m c
+stepEffect p (P k) m c flag next = poll m c flag next
+stepEffect p (I k) m c flag next = interrupt p m c flag
+stepEffect p (C k) m c flag next = comeBack m c
+stepEffect p (L k) m c flag next = release m c

@@ -3,10 +3,14 @@ use crate::kinds::Effect;
 use crate::kinds::Move;
 use parts::Answer;
 use parts::Core;
+use parts::Profile;
 use parts::State;
 use parts::Step;
 use parts::core;
+use parts::dropped;
 use parts::idle;
+use parts::is_dropped;
+use parts::is_marked;
 use parts::two_stage;
 use settling::Best;
 use ticket::Comparison;
@@ -15,7 +19,7 @@ use ticket::UnitNo;
 use ticket::compare;
 use ticket::take;
 ghost use mathlib.Core.Path.{_≡_};
-ghost use Rattle.effects.specs.Effect.{request, nest, interrupt, comeBack, release, served, heritable, heir, hold, inherit, wait, poll, stepEffect};
+ghost use Rattle.effects.specs.Effect.{request, nest, callOff, countsDropped, markedAway, dequeue, interrupt, enterAgain, goOn, comeBack, release, served, heritable, heir, hold, inherit, wait, poll, stepEffect};
 
 // R: takes the counter as ticket, enters the unit, waits.
 fn request(u: UnitNo, counter: Ticket) -> Effect
@@ -49,9 +53,9 @@ fn nest(u: UnitNo, counter: Ticket, c: Core) -> Effect
     }
 }
 
-// I: gives up every register, carried ticket becomes the own one, away.
-fn interrupt(counter: Ticket, c: Core) -> Effect
-    ensures { λ r. ⌜ r ≡ interrupt counter c ⌝ }
+// I in T: gives up every register, carried ticket becomes the own one, away.
+fn call_off(counter: Ticket, c: Core) -> Effect
+    ensures { λ r. ⌜ r ≡ callOff counter c ⌝ }
 {
     let own = c.own;
     let first = c.first;
@@ -64,9 +68,58 @@ fn interrupt(counter: Ticket, c: Core) -> Effect
     }
 }
 
+// I in D, flag set: gives the unit up and counts as dropped; reports the ticket that just ended.
+fn counts_dropped(counter: Ticket, c: Core) -> Effect
+    ensures { λ r. ⌜ r ≡ countsDropped counter c ⌝ }
+{
+    let own = c.own;
+    Effect {
+        core: dropped(c),
+        counter,
+        ticket: own,
+        does: Move::GiveUp,
+        answer: Answer::Done,
+    }
+}
+
+// I in D, flag clear: stays registered, marked away.
+fn marked_away(counter: Ticket, c: Core) -> Effect
+    ensures { λ r. ⌜ r ≡ markedAway counter c ⌝ }
+{
+    let own = c.own;
+    let first = c.first;
+    Effect {
+        core: core(own, own, first, UnitNo(0), State::Marked),
+        counter,
+        ticket: own,
+        does: Move::Stay,
+        answer: Answer::Done,
+    }
+}
+
+// I in D.
+fn dequeue(counter: Ticket, c: Core, flag: bool) -> Effect
+    ensures { λ r. ⌜ r ≡ dequeue counter c flag ⌝ }
+{
+    if flag {
+        return counts_dropped(counter, c);
+    }
+    marked_away(counter, c)
+}
+
+// I: the profile decides.
+fn interrupt(p: Profile, counter: Ticket, c: Core, flag: bool) -> Effect
+    ensures { λ r. ⌜ r ≡ interrupt p counter c flag ⌝ }
+{
+    match p {
+        Profile::T => call_off(counter, c),
+        Profile::D => dequeue(counter, c, flag),
+    }
+}
+
 // C: enters its first unit again with its own ticket, waits.
-fn come_back(counter: Ticket, c: Core) -> Effect
-    ensures { λ r. ⌜ r ≡ comeBack counter c ⌝ }
+fn enter_again(counter: Ticket, c: Core) -> Effect
+    ensures { λ r. ⌜ r ≡ enterAgain counter c ⌝ }
 {
     let own = c.own;
     let first = c.first;
@@ -77,6 +130,36 @@ fn come_back(counter: Ticket, c: Core) -> Effect
         does: Move::Enter(first, own),
         answer: Answer::Done,
     }
+}
+
+// C of a core still registered: goes on waiting, in its place.
+fn go_on(counter: Ticket, c: Core) -> Effect
+    ensures { λ r. ⌜ r ≡ goOn counter c ⌝ }
+{
+    let own = c.own;
+    let first = c.first;
+    Effect {
+        core: core(own, own, first, UnitNo(0), State::Waiting),
+        counter,
+        ticket: own,
+        does: Move::Stay,
+        answer: Answer::Done,
+    }
+}
+
+// C: a dropped core takes a new ticket and joins its unit again.
+fn come_back(counter: Ticket, c: Core) -> Effect
+    ensures { λ r. ⌜ r ≡ comeBack counter c ⌝ }
+{
+    let s = c.state;
+    let first = c.first;
+    if is_dropped(s) {
+        return request(first, counter);
+    }
+    if is_marked(s) {
+        return go_on(counter, c);
+    }
+    enter_again(counter, c)
 }
 
 // L: gives up every register, ticket ends, idle.
@@ -104,6 +187,8 @@ fn served(s: State) -> State
         State::WaitingSecond => State::HoldingBoth,
         State::HoldingBoth => State::HoldingBoth,
         State::Away => State::Away,
+        State::Marked => State::Marked,
+        State::Dropped => State::Dropped,
     }
 }
 
@@ -197,16 +282,16 @@ fn poll(counter: Ticket, c: Core, flag: bool, b: Best) -> Effect
     wait(counter, c)
 }
 
-// Seam: the effect of a step of the core c: whether the flag that it waits for is set, and who is next in line at its
-// first unit, is what a poll reads.
-pub fn step_effect(s: Step, counter: Ticket, c: Core, flag: bool, b: Best) -> Effect
-    ensures { λ r. ⌜ r ≡ stepEffect s counter c flag b ⌝ }
+// Seam: the effect of a step of the core c in a table of this profile: whether the flag that it waits for is set, and
+// who is next in line at its first unit, is what a poll reads; an interrupt in D reads the flag too.
+pub fn step_effect(p: Profile, s: Step, counter: Ticket, c: Core, flag: bool, b: Best) -> Effect
+    ensures { λ r. ⌜ r ≡ stepEffect p s counter c flag b ⌝ }
 {
     match s {
         Step::R(_, u) => request(u, counter),
         Step::N(_, u) => nest(u, counter, c),
         Step::P(_) => poll(counter, c, flag, b),
-        Step::I(_) => interrupt(counter, c),
+        Step::I(_) => interrupt(p, counter, c, flag),
         Step::C(_) => come_back(counter, c),
         Step::L(_) => release(counter, c),
     }

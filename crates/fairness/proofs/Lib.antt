@@ -1,9 +1,11 @@
 pub mod Counting
 pub mod Settled
 pub mod Effects
+pub mod Skipping
 pub mod Invariant
 pub mod Order
 pub mod Stuck
 pub mod Standing
 pub mod Overtaking
 pub mod Bound
+pub mod Ahead

@@ -1,13 +1,6 @@
 -- The comparison of two live tickets of a place reached is the order of their issue numbers.
-use Rattle.parts.specs.State.{isIdle}
-use Rattle.block.specs.Table.{coreOf}
-use Rattle.parts.proofs.Bools.{not-true-false}
 use Rattle.fairness.specs.Claims.{OrderIsIssueOrder}
 use Rattle.fairness.proofs.Invariant.{numbered, order}
 
 pub order-is-issue-order : OrderIsIssueOrder
-order-is-issue-order p j k r a b =
-    let n = numbered p r in
-    order (n .0) p (n .1) j k
-    (not-true-false (isIdle (coreOf (p .table) j .state)) a)
-    (not-true-false (isIdle (coreOf (p .table) k .state)) b)
+order-is-issue-order p j k r a b = let n = numbered p r in order (n .0) p (n .1) j k a b

@@ -1,5 +1,5 @@
--- What settling does to a unit: it is settled as it was before the others. Its registers keep their tickets and flags, and the one
--- flag that is set is that of the core which is due.
+-- What settling does to a unit, where it drops nobody: it is settled as it was before the others. Its registers keep their tickets and flags, and the
+-- one flag that is set is that of the core which is due.
 use Prim.Native.Nat.{ℕ, _≤_, _<_}
 use mathlib.Core.Bool.{Bool, true, false, cond}
 use mathlib.Core.List.{[]}
@@ -11,12 +11,13 @@ use lib.Dec.{eqb}
 use lib.Seq.{getD-set-same, getD-set-other}
 use borrow.Author.Tests.{eqb-true, eq-eqb}
 use Rattle.ticket.specs.declared.kinds.CoreNo.{CoreNo}
+use Rattle.parts.specs.Fold.{upTo}
 use Rattle.parts.specs.Parts.{cores, units, coreNo, blank, flagged, registerIn}
 use Rattle.block.specs.Table.{unitOf, registerOf, withRegister, Shaped}
 use Rattle.settling.specs.Line.{flags, next}
 use Rattle.settling.specs.Shown.{shown}
 use Rattle.settling.specs.Settle.{given}
-use Rattle.block.specs.Settle.{winner, give, show, settleNext, settle}
+use Rattle.block.specs.Settle.{winner, give, show, Settling, grantNext, settle}
 use Rattle.parts.specs.declared.kinds.Register.{Register}
 use Rattle.parts.specs.declared.kinds.LockUnit.{LockUnit}
 use Rattle.block.specs.declared.table.Table.{Table}
@@ -25,8 +26,8 @@ use Rattle.settling.specs.declared.line.Best.the-variants.{Nobody, Won}
 use Rattle.block.proofs.Access.{unit-same, shaped-register}
 use Rattle.parts.proofs.Along.{same-or-not, to-last, along}
 use Rattle.settling.proofs.Picking.{next-won}
-use Rattle.block.proofs.Touched.{settleAt, settledUnit}
-use Rattle.block.proofs.Touching.{settleAt-unit}
+use Rattle.block.proofs.Touched.{AllPresent, settleAt, settledUnit}
+use Rattle.block.proofs.Touching.{settleAt-unit, settle-grants}
 use Rattle.laws.specs.Granting.{Due}
 use Rattle.laws.proofs.Settling.{Kept, settleAt-shaped, settleAt-keeps}
 
@@ -47,29 +48,33 @@ record Turned (t : Table) (n : ℕ) (z : Table) : Type 0 where
   behind : (v : ℕ) → v < n → unitOf z v ≡ settledUnit (unitOf t v) .unit
   keeps : (v j : ℕ) → Kept (registerOf t v j) (registerOf z v j)
 
-module _ (t : Table) (s : Shaped t) where
+module _ (t : Table) (s : Shaped t) (present : AllPresent t) where
   turned : Turned t units (settle t .table)
   turned =
-      along (λ n z. Turned t n (z .table)) settleNext (record { table = t; grants = [] })
-      (record {
-        shaped = s;
-        ahead = λ v h. refl;
-        behind = λ v h. absurd (not-suc-le-zero h);
-        keeps = λ v j. record { ticket = refl; valid = refl; flag = λ e. e };
-      })
-      units
-      (λ n h z m. record {
-        shaped = settleAt-shaped (z .table) n (m .shaped) h;
-        ahead = λ v l. settleAt-unit (z .table) n v (λ e. omega arith) ∙ m .ahead v (omega arith);
-        behind =
-            to-last (λ v. unitOf (settleAt (z .table) n .table) v ≡ settledUnit (unitOf t v) .unit) n
-            (λ v l. settleAt-unit (z .table) n v (λ e. omega arith) ∙ m .behind v l)
-            (settled-here (z .table) n (m .shaped) h ∙ ap (λ (x : LockUnit). settledUnit x .unit) (m .ahead n (omega arith)));
-        keeps = λ v j.
-            let a = m .keeps v j in
-            let b = settleAt-keeps (z .table) n (m .shaped) h v j in
-            record { ticket = b .ticket ∙ a .ticket; valid = b .valid ∙ a .valid; flag = λ e. b .flag (a .flag e) };
-      })
+      subst (λ (x : Settling). Turned t units (x .table)) (sym (settle-grants t present)) granted
+    where
+      granted : Turned t units (upTo grantNext units (record { table = t; grants = [] }) .table)
+      granted =
+          along (λ n z. Turned t n (z .table)) grantNext (record { table = t; grants = [] })
+          (record {
+            shaped = s;
+            ahead = λ v h. refl;
+            behind = λ v h. absurd (not-suc-le-zero h);
+            keeps = λ v j. record { ticket = refl; valid = refl; flag = λ e. e };
+          })
+          units
+          (λ n h z m. record {
+            shaped = settleAt-shaped (z .table) n (m .shaped) h;
+            ahead = λ v l. settleAt-unit (z .table) n v (λ e. omega arith) ∙ m .ahead v (omega arith);
+            behind =
+                to-last (λ v. unitOf (settleAt (z .table) n .table) v ≡ settledUnit (unitOf t v) .unit) n
+                (λ v l. settleAt-unit (z .table) n v (λ e. omega arith) ∙ m .behind v l)
+                (settled-here (z .table) n (m .shaped) h ∙ ap (λ (x : LockUnit). settledUnit x .unit) (m .ahead n (omega arith)));
+            keeps = λ v j.
+                let a = m .keeps v j in
+                let b = settleAt-keeps (z .table) n (m .shaped) h v j in
+                record { ticket = b .ticket ∙ a .ticket; valid = b .valid ∙ a .valid; flag = λ e. b .flag (a .flag e) };
+          })
 
   pub settled-keeps : (u j : ℕ) → Kept (registerOf t u j) (registerOf (settle t .table) u j)
   settled-keeps = turned .keeps

@@ -2,46 +2,50 @@
 -- number: its own steps are refused or leave the table, and the steps of others leave it. Every live ticket with an earlier number was
 -- live at its entry, as new numbers come after all others.
 use Prim.Native.Nat.{ℕ, _<_}
-use mathlib.Core.Bool.{Bool, true, false, _&&_, _||_, not}
+use mathlib.Core.Bool.{Bool, true, false, cond, _&&_, _||_, not}
 use mathlib.Core.List.{List, [], _∷_}
 use mathlib.Core.Logic.{_⊎_, inl, inr, ⊎-elim, _≢_}
-use mathlib.Core.Path.{_≡_, refl, sym, _∙_, ap}
+use mathlib.Core.Path.{_≡_, refl, sym, _∙_, ap, subst}
 use native.Mathlib.Omega.{arith}
 use lib.Dec.{eqb, ltb}
 use borrow.Author.Tests.{eqb-true, eq-eqb, ltb-true, lt-ltb}
 use Rattle.ticket.specs.Kinds.{grant}
 use Rattle.ticket.specs.declared.kinds.Ticket.{Ticket}
-use Rattle.ticket.specs.declared.kinds.UnitNo.{UnitNo}
 use Rattle.parts.specs.Answer.{whose}
-use Rattle.parts.specs.State.{isIdle, waits, holds, twoStage}
-use Rattle.parts.specs.Parts.{cores, units, coreNo, unitNo}
+use Rattle.parts.specs.State.{isIdle, isLive, isDropped, waits, holds, stands, twoStage}
+use Rattle.parts.specs.Parts.{cores, units, coreNo, unitNo, standing}
 use Rattle.block.specs.Table.{coreOf, unitOf, registerOf}
 use Rattle.effects.specs.declared.kinds.Move.the-variants.{Enter}
+use Rattle.effects.specs.declared.kinds.Effect.{Effect}
+use Rattle.block.specs.Skipping.{givesUp, skips}
 use Rattle.block.specs.Steps.{effectOn, moves, step}
 use Rattle.block.specs.Over.{over}
 use Rattle.parts.specs.declared.kinds.Core.{Core}
 use Rattle.parts.specs.declared.kinds.Register.{Register}
 use Rattle.parts.specs.declared.kinds.State.{State}
-use Rattle.parts.specs.declared.kinds.State.the-variants.{Waiting}
+use Rattle.parts.specs.declared.kinds.State.the-variants.{Waiting, Marked}
 use Rattle.block.specs.declared.table.Table.{Table}
 use Rattle.parts.specs.declared.answer.Step.{Step}
 use Rattle.parts.specs.declared.answer.Step.the-variants.{R, N, P, I, C, L}
 use Rattle.parts.proofs.Along.{same-or-not}
 use Rattle.block.proofs.Allows.{may-request, may-nest, may-come-back, may-release}
+use Rattle.block.proofs.DropsKept.{skipped-same}
 use Rattle.parts.proofs.Bools.{and-left, and-right, and-both, not-true-false, clash}
 use Rattle.parts.proofs.Folds.{at-some}
 use Rattle.block.proofs.Standing.{units-few}
-use Rattle.block.proofs.Stepping.{poll-moves}
+use Rattle.block.proofs.Stepping.{poll-moves, come-cases}
+use Rattle.block.proofs.Agreeing.{at-first}
 use Rattle.laws.specs.Granting.{listed, Due}
 use Rattle.laws.proofs.Granting.{settled-exactly}
 use Rattle.laws.proofs.Keeping.{Good}
-use Rattle.block.proofs.Moving.{affected-shown}
-use Rattle.fairness.specs.Run.{Place, done, requests, interrupts, onward, afterAll}
+use Rattle.block.proofs.Moving.{shown, affected-shown}
+use Rattle.fairness.specs.Run.{Place, done, takesTicket, interrupts, onward, afterAll}
 use Rattle.fairness.specs.Stretch.{grants, gives, entersAt, enters, leaves, stretch, isEarlier, among}
 use Rattle.fairness.proofs.Counting.{at-gives}
 use Rattle.fairness.proofs.Settled.{settled-new}
-use Rattle.fairness.proofs.Effects.{Accepted, stepped, stepped-core, stepped-counts, answers-done, judged, done-accepted}
-use Rattle.fairness.proofs.Invariant.{Live, Numbered, live-small, issue-kept, numbered-onward, live-onward}
+use Rattle.fairness.proofs.Effects.{Accepted, Live, stepped, stepped-core, stepped-counts, answers-done, interrupt-done, judged, done-accepted}
+use Rattle.fairness.proofs.Skipping.{skipOn, skipped-once, calm-at, live-skipped, waits-skipped, flag-skipped, onward-skipped, leaves-skipped}
+use Rattle.fairness.proofs.Invariant.{Numbered, live-small, issue-kept, numbered-skipped, numbered-onward, live-onward}
 
 pub or-none : (a b : Bool) → (a || b) ≡ false → (a ≡ false) × (b ≡ false)
 or-none true b e = absurd (clash refl e)
@@ -56,7 +60,7 @@ module _ (t : Table) (z : Step) (a : Accepted t z) where
   pub due-gives : (u k : ℕ) → u < units → Due (unitOf (moves t z) u) (coreNo k) → gives u k (listed (step t z .grants)) ≡ true
   due-gives u k h d =
       at-gives u k (listed (step t z .grants))
-      (rw (a .grants) (settled-exactly (moves t z) (grant (unitNo u) (coreNo k)) .1 (record { place = h; due = d })))
+      (rw (a .grants) (settled-exactly (moves t z) (a .present) (grant (unitNo u) (coreNo k)) .1 (record { place = h; due = d })))
 
   stays-clear :
       (u k : ℕ) →
@@ -70,7 +74,7 @@ module _ (t : Table) (z : Step) (a : Accepted t z) where
       go false e = e
       go true e =
           ⊎-elim (λ f. absurd (clash f clear)) (λ d. absurd (clash (due-gives u k h d) ungranted))
-          (settled-new (moves t z) (a .shaped) u h k (rw (stepped t z a) at e))
+          (settled-new (moves t z) (a .shaped) (a .present) u h k (rw (stepped t z a) at e))
 
 -- e is the place after the entry
 pub record Stands (e : Place) (c k u : ℕ) (p : Place) : Type 0 where
@@ -122,39 +126,71 @@ module _ (c : ℕ) (p : Place) (n : Numbered c p) (s : Step) (k u : ℕ) (entry 
       }
 
   taken : Accepted t s
-  taken = done-accepted t (n .good) s (entering .accepted)
+  taken = done-accepted t (n .good) s (calm-at t s (keeps-all s (entering .at))) (entering .accepted)
+    where
+      -- R and C give nothing up
+      keeps-all : (s : Step) → entersAt t s u ≡ true → givesUp s (coreOf t (whose s .0) .state) ≡ false
+      keeps-all (R j v) at = refl
+      keeps-all (N j v) at = refl
+      keeps-all (P j) at = refl
+      keeps-all (I j) at = absurd (clash at refl)
+      keeps-all (C j) at = refl
+      keeps-all (L j) at = absurd (clash at refl)
 
   entered : Entered k u (moves t s)
   entered = go s (entering .core) (entering .at) taken
     where
-      -- with its register at unit v entered
+      -- by the effect: with its register at unit v entered, or as it stood
       at-unit :
-          (s : Step) (v : UnitNo) (m : Ticket) →
+          (s : Step) (x : Effect) →
           whose s .0 ≡ k →
-          v .0 ≡ u →
           Accepted t s →
-          effectOn t s .does ≡ Enter v m →
-          effectOn t s .core .state ≡ Waiting →
-          effectOn t s .core .first ≡ v →
+          effectOn t s ≡ x →
+          x .core .state ≡ Waiting →
+          x .core .first .0 ≡ u →
+          shown t (whose s .0) (x .does) u .flag ≡ false →
           Entered k u (moves t s)
-      at-unit s v m same q a does state first =
-          let h : v .0 < units = rw q (first-class t (n .good) u (entering .class)) in
-          let r = affected-shown t (n .good .shaped) (whose s .0) (a .small) (v .0) h (effectOn t s) in
-          rw (← same, ← q)
+      at-unit s x same a does state first clear =
+          let h = first-class t (n .good) u (entering .class) in
+          let r = affected-shown t (n .good .shaped) (whose s .0) (a .small) u h (effectOn t s) in
+          let c' = a .moved .becomes ∙ ap (λ (y : Effect). y .core) does in
+          rw (← same)
           (record {
-            state = ap (λ (x : Core). x .state) (a .moved .becomes) ∙ state;
-            first = ap (λ (x : Core). x .first .0) (a .moved .becomes) ∙ ap (λ (x : UnitNo). x .0) first;
-            clear = ap (λ (x : Register). x .flag) r ∙ simp (does, eq-eqb (v .0) (v .0) refl);
+            state = ap (λ (y : Core). y .state) c' ∙ state;
+            first = ap (λ (y : Core). y .first .0) c' ∙ first;
+            clear = ap (λ (y : Register). y .flag) r ∙ ap (λ (y : Effect). shown t (whose s .0) (y .does) u .flag) does ∙ clear;
           })
 
+      -- a register that is entered has its flag clear
+      fresh-clear : (j v : ℕ) (m : Ticket) → v ≡ u → shown t j (Enter (unitNo v) m) u .flag ≡ false
+      fresh-clear j v m q = ap (λ (b : Bool). cond b (standing m) (registerOf t u j) .flag) (eq-eqb u v (sym q))
+
       go : (s : Step) → whose s .0 ≡ k → entersAt t s u ≡ true → Accepted t s → Entered k u (moves t s)
-      go (R j v) same at a = at-unit (R j v) v (t .counter) same (eqb-true (v .0) u at) a refl refl refl
+      go (R j v) same at a =
+          let q = eqb-true (v .0) u at in
+          at-unit (R j v) (effectOn t (R j v)) same a refl refl q (fresh-clear (j .0) (v .0) (t .counter) q)
       go (N j v) same at a = absurd (clash at refl)
       go (P j) same at a = absurd (clash at refl)
       go (I j) same at a = absurd (clash at refl)
       go (C j) same at a =
-          let c' = coreOf t (j .0) in
-          at-unit (C j) (c' .first) (c' .own) same (eqb-true (c' .first .0) u at) a refl refl refl
+          come-cases (t .counter) (coreOf t (j .0)) (λ (x : Effect). effectOn t (C j) ≡ x → Entered k u (moves t (C j)))
+          (λ z e. at-unit (C j) _ same a e refl q (fresh-clear (j .0) (coreOf t (j .0) .first .0) (coreOf t (j .0) .own) q))
+          (λ z e. at-unit (C j) _ same a e refl q (marked z))
+          (λ z e. at-unit (C j) _ same a e refl q (fresh-clear (j .0) (coreOf t (j .0) .first .0) (t .counter) q))
+          (may-come-back t j (a .may) .state)
+          refl
+        where
+          q : coreOf t (j .0) .first .0 ≡ u
+          q = eqb-true (coreOf t (j .0) .first .0) u at
+
+          -- whoever is marked away has no flag
+          marked : coreOf t (j .0) .state ≡ Marked → registerOf t u (j .0) .flag ≡ false
+          marked z =
+              let c' = coreOf t (j .0) in
+              let h : c' .first .0 < units = rw q (first-class t (n .good) u (entering .class)) in
+              let r = registerOf t (c' .first .0) (j .0) in
+              let x = at-first c' r (ap stands z) (n .good .sound .unit (c' .first .0) h .agrees (j .0) (a .small)) in
+              ap (λ (v : ℕ). registerOf t v (j .0) .flag) (sym q) ∙ not-true-false (r .flag) (simp z at (x .flagless))
       go (L j) same at a = absurd (clash at refl)
 
   pub stands-entry : Stands (onward p s) c k u (onward p s)
@@ -172,7 +208,7 @@ module _ (c : ℕ) (p : Place) (n : Numbered c p) (s : Step) (k u : ℕ) (entry 
             at-some (λ (i : ℕ). isEarlier (onward p s) k i && eqb (onward p s .issue i) (onward p s .issue j)) cores j
             (live-small (onward p s .table) (numbered-onward c p n s .good .shaped) j live)
             (and-both
-            (and-both (ap not live) (lt-ltb (onward p s .issue j) (onward p s .issue k) less))
+            (and-both live (lt-ltb (onward p s .issue j) (onward p s .issue k) less))
             (eq-eqb (onward p s .issue j) (onward p s .issue j) refl));
       }
 
@@ -199,27 +235,28 @@ module _ (e : Place) (c k u : ℕ) (p : Place) (w : Stands e c k u p) (z : Step)
   pub place : u < units
   place = first-class x g u (w .class)
 
-  -- the core cannot request again
-  unasked : requests x z k ≡ false
-  unasked = go z
+  -- the core takes no other ticket
+  unasked : takesTicket x z k ≡ false
+  unasked = pick (takesTicket x z k) refl
     where
-      asked : (z : Step) → requests x z k ≡ true → ⊥
+      asked : (z : Step) → takesTicket x z k ≡ true → ⊥
       asked (R j v) q =
           let same = eqb-true (j .0) k (and-left (eqb (j .0) k) _ q) in
-          let a = done-accepted x g (R j v) (and-right (eqb (j .0) k) _ q) in
+          let a = done-accepted x g (R j v) (calm-at x (R j v) refl) (and-right (eqb (j .0) k) _ q) in
           states isIdle (rw same at (may-request x j v (a .may) .state)) (w .state) refl refl
       asked (N j v) q = clash q refl
       asked (P j) q = clash q refl
       asked (I j) q = clash q refl
-      asked (C j) q = clash q refl
+      asked (C j) q =
+          let b = eqb (j .0) k && isDropped (coreOf x (j .0) .state) in
+          let e = and-left b _ q in
+          let same = eqb-true (j .0) k (and-left (eqb (j .0) k) _ e) in
+          clash (rw same at (and-right (eqb (j .0) k) _ e)) (ap isDropped (w .state))
       asked (L j) q = clash q refl
 
-      go : (z : Step) → requests x z k ≡ false
-      go z = pick (requests x z k) refl
-        where
-          pick : (b : Bool) → requests x z k ≡ b → requests x z k ≡ false
-          pick true q = absurd (asked z q)
-          pick false q = q
+      pick : (b : Bool) → takesTicket x z k ≡ b → takesTicket x z k ≡ false
+      pick true q = absurd (asked z q)
+      pick false q = q
 
   pub issue-stays : onward p z .issue k ≡ e .issue k
   issue-stays = issue-kept p z k unasked ∙ w .issue
@@ -235,8 +272,12 @@ module _ (e : Place) (c k u : ℕ) (p : Place) (w : Stands e c k u p) (z : Step)
           (λ f. absurd (clash (rw (← q) at f) (rw (w .state, w .first) (w .clear))))
           (λ f two. absurd (clash (rw (← q) at two) (ap twoStage (w .state))))
           (record { core = refl; register = refl })
-      own (I j) q a i = absurd (clash (and-both (eq-eqb (j .0) k (sym q)) (answers-done x (I j) a refl)) i)
-      own (C j) q a i = absurd (states waits (w .state) (rw (← q) at (may-come-back x j (a .may) .1)) refl refl)
+      own (I j) q a i = absurd (clash (and-both (eq-eqb (j .0) k (sym q)) (answers-done x (I j) a (interrupt-done x j))) i)
+      own (C j) q a i =
+          let here : coreOf x (j .0) .state ≡ Waiting = rw (← q) (w .state) in
+          absurd
+          (⊎-elim (λ h. states waits here h refl refl) (⊎-elim (λ h. states waits here h refl refl) (λ h. states waits here h refl refl))
+          (may-come-back x j (a .may) .state))
       own (L j) q a i =
           ⊎-elim
           (λ h. absurd (states holds (rw (← q) at h) (w .state) refl refl))
@@ -247,8 +288,8 @@ module _ (e : Place) (c k u : ℕ) (p : Place) (w : Stands e c k u p) (z : Step)
       go (inl q) = own z q a uninterrupted
       go (inr d) = record { core = a .moved .others k d; register = a .moved .registers u place k d }
 
-  pub stands-onward : Stands e c k u (onward p z)
-  stands-onward =
+  calm-stands : skips x z ≡ false → Stands e c k u (onward p z)
+  calm-stands calm =
       let n = numbered-onward c p (w .numbered) z in
       ⊎-elim
       (λ a.
@@ -271,7 +312,7 @@ module _ (e : Place) (c k u : ℕ) (p : Place) (w : Stands e c k u p) (z : Step)
         issue = issue-stays;
         earlier = still;
       })
-      (judged x g z)
+      (judged x g z calm)
     where
       still : (j : ℕ) → Live (onward p z .table) j → onward p z .issue j < e .issue k → among e k (onward p z .issue j) ≡ true
       still j live less = ⊎-elim was new (live-onward c p (w .numbered) z j live)
@@ -283,9 +324,35 @@ module _ (e : Place) (c k u : ℕ) (p : Place) (w : Stands e c k u p) (z : Step)
 
           new : onward p z .issue j ≡ p .issued → among e k (onward p z .issue j) ≡ true
           new q =
-              let low = w .numbered .low k (ap isIdle (w .state)) in
+              let low = w .numbered .low k (ap isLive (w .state)) in
               let same = w .issue in
               absurd (omega arith)
+
+-- where the step skips
+module _ (e : Place) (c k u : ℕ) (p : Place) (w : Stands e c k u p) (z : Step) where
+  pub stands-skipped : Stands e c k u (skipOn p z)
+  stands-skipped =
+      let t = p .table in
+      let g = w .numbered .good in
+      let same = waits-skipped t z g k (w .state) in
+      record {
+        numbered = numbered-skipped c p (w .numbered) z;
+        state = ap (λ (y : Core). y .state) same ∙ w .state;
+        first = ap (λ (y : Core). y .first .0) same ∙ w .first;
+        clear = flag-skipped t z g u k ∙ w .clear;
+        class = rw (skipped-same t z .0) (w .class);
+        issue = w .issue;
+        earlier = λ j live less. w .earlier j (live-skipped t z g j live .0) less;
+      }
+
+  module _ (on : leaves k u p z ≡ false) where
+    pub on-skipped : leaves k u (skipOn p z) z ≡ false
+    on-skipped = sym (leaves-skipped p (w .numbered .good) k u z) ∙ on
+
+    pub stands-onward : Stands e c k u (onward p z)
+    stands-onward =
+        subst (Stands e c k u) (sym (onward-skipped p (w .numbered .good) z))
+        (calm-stands e c k u (skipOn p z) stands-skipped z on-skipped (skipped-once (p .table) z (w .numbered .good)))
 
 -- All later steps
 

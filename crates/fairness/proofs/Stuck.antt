@@ -1,5 +1,5 @@
--- Never stuck. The unit where a core stands has a flag. Its core holds all it asked for, or would be granted at its next poll, or waits
--- at a second-class unit without its flag; that unit has a flag too, and its core can wait nowhere else.
+-- Never stuck. The unit where a core stands, marked away or not, has a flag. Its core holds all it asked for, or would be granted at its next poll, or
+-- waits at a second-class unit without its flag; that unit has a flag too, and its core can wait nowhere else.
 use Prim.Native.Nat.{ℕ, _≤_, _<_}
 use mathlib.Core.Bool.{Bool, true, false}
 use mathlib.Core.Logic.{_⊎_, inl, inr, ⊎-elim}
@@ -7,7 +7,7 @@ use mathlib.Core.Path.{_≡_, refl, _∙_, ap}
 use native.Mathlib.Omega.{arith}
 use borrow.Author.Tests.{eqb-true, eq-eqb, ne-eqb, lt-leb}
 use Rattle.parts.specs.Fold.{some, one}
-use Rattle.parts.specs.State.{isIdle, waits, holds, stands, twoStage}
+use Rattle.parts.specs.State.{isIdle, isLive, waits, holds, stands, twoStage}
 use Rattle.parts.specs.Parts.{cores, units, coreNo}
 use Rattle.block.specs.Table.{coreOf, unitOf, registerOf}
 use Rattle.parts.specs.Answer.{numberOf}
@@ -16,29 +16,31 @@ use Rattle.block.specs.Sound as S
 use Rattle.block.specs.Parts.{Sound}
 use Rattle.block.specs.Steps.{awaited, verdict, step}
 use Rattle.parts.specs.declared.kinds.State.{State}
-use Rattle.parts.specs.declared.kinds.State.the-variants.{Idle, Waiting, Holding, WaitingSecond, HoldingBoth, Away}
+use Rattle.parts.specs.declared.kinds.State.the-variants.{Idle, Waiting, Holding, WaitingSecond, HoldingBoth, Away, Marked, Dropped}
 use Rattle.effects.specs.declared.kinds.Effect.{Effect}
 use Rattle.block.specs.declared.table.Table.{Table}
 use Rattle.parts.specs.declared.answer.Step.the-variants.{P}
 use Rattle.block.specs.declared.stepped.Stepped.{Stepped}
 use Rattle.refusals.specs.declared.verdict.Verdict.the-variants.{Allowed}
-use Rattle.parts.proofs.Bools.{clash}
+use Rattle.parts.proofs.Bools.{not-true-false, clash}
 use Rattle.parts.proofs.Folds.{some-at, at-some, some-none, none-count}
 use Rattle.block.proofs.Standing.{first-in, second-after}
 use Rattle.block.proofs.Stepping.{poll-cases}
-use Rattle.block.proofs.Agreeing.{AtFirst, AtSecond, shows, flag-at}
+use Rattle.block.proofs.Agreeing.{AtFirst, AtSecond, shows, flag-at, at-first}
+use Rattle.block.proofs.Suited.{live-busy, stands-live}
 use Rattle.laws.proofs.Keeping.{Good}
 use Rattle.block.proofs.Kept.{names-two, live-within}
 use Rattle.fairness.specs.Claims.{NeverStuck}
-use Rattle.fairness.proofs.Effects.{accepted}
-use Rattle.fairness.proofs.Invariant.{Live, live-small, numbered}
+use Rattle.fairness.proofs.Effects.{Live, accepted}
+use Rattle.fairness.proofs.Skipping.{calm-at}
+use Rattle.fairness.proofs.Invariant.{live-small, numbered}
 
 -- core j holds all it asked for, or would be granted
 abbrev Goes : Table → ℕ → Type 0
 Goes t j = (holds (coreOf t j .state) ≡ true) ⊎ (numberOf (step t (P (coreNo j)) .answer) ≡ 1)
 
 -- a valid register's unit has a flag
-flag-there :
+pub flag-there :
     (t : Table) →
     Sound t →
     (u k : ℕ) →
@@ -68,9 +70,9 @@ module _ (t : Table) (g : Good t) where
       registerOf t (awaited (coreOf t j)) j .flag ≡ true →
       numberOf (step t (P (coreNo j)) .answer) ≡ 1
   granted-next j w live f =
-      let within = live-within t (g .sound) j (live-small t (g .shaped) j live) live in
+      let within = live-within t (g .sound) j (live-small t (g .shaped) j live) (live-busy (coreOf t j .state) live) in
       let may : verdict t (P (coreNo j)) ≡ Allowed = simp (lt-leb (t .counts .cores) j within, w) in
-      ap (λ (x : Stepped). numberOf (x .answer)) (accepted t g (P (coreNo j)) may .works) ∙
+      ap (λ (x : Stepped). numberOf (x .answer)) (accepted t g (P (coreNo j)) (calm-at t (P (coreNo j)) refl) may .works) ∙
       poll-cases t (coreNo j) (λ (e : Effect). numberOf (e .answer) ≡ 1) (λ set. refl) (λ clear two. absurd (clash f clear)) (λ clear one. absurd (clash f clear))
 
   -- the core of a flag goes, or waits at its second unit
@@ -89,7 +91,7 @@ module _ (t : Table) (g : Good t) where
           Goes t j ⊎ ((coreOf t j .state ≡ WaitingSecond) × (registerOf t (coreOf t j .second .0) j .flag ≡ false))
       go Idle e (inl a) = absurd (clash (a .stands) (ap stands e))
       go Idle e (inr a) = absurd (clash (a .two) (ap twoStage e))
-      go Waiting e (inl a) = inl (inr (granted-next j (ap waits e) (ap isIdle e) (simp e (rw (a .unit) at f))))
+      go Waiting e (inl a) = inl (inr (granted-next j (ap waits e) (ap isLive e) (simp e (rw (a .unit) at f))))
       go Waiting e (inr a) = absurd (clash (a .two) (ap twoStage e))
       go Holding e a = inl (inl (ap holds e))
       go WaitingSecond e a = second (registerOf t (coreOf t j .second .0) j .flag) refl
@@ -98,11 +100,15 @@ module _ (t : Table) (g : Good t) where
               (b : Bool) →
               registerOf t (coreOf t j .second .0) j .flag ≡ b →
               Goes t j ⊎ ((coreOf t j .state ≡ WaitingSecond) × (registerOf t (coreOf t j .second .0) j .flag ≡ false))
-          second true q = inl (inr (granted-next j (ap waits e) (ap isIdle e) (simp e q)))
+          second true q = inl (inr (granted-next j (ap waits e) (ap isLive e) (simp e q)))
           second false q = inr (e, q)
       go HoldingBoth e a = inl (inl (ap holds e))
       go Away e (inl a) = absurd (clash (a .stands) (ap stands e))
       go Away e (inr a) = absurd (clash (a .two) (ap twoStage e))
+      go Marked e (inl a) = absurd (clash f (not-true-false (registerOf t u j .flag) (simp e at (a .flagless))))
+      go Marked e (inr a) = absurd (clash (a .two) (ap twoStage e))
+      go Dropped e (inl a) = absurd (clash (a .stands) (ap stands e))
+      go Dropped e (inr a) = absurd (clash (a .two) (ap twoStage e))
 
   -- whoever has the flag of the second unit that a core waits at goes
   second-goes : (j : ℕ) → j < cores → coreOf t j .state ≡ WaitingSecond → (i : ℕ) × Goes t i
@@ -151,7 +157,7 @@ module _ (t : Table) (g : Good t) where
       other i m u h low f (inr x) = absurd (nowhere i m u h low f (x .0) (x .1))
 
   somebody-goes : (k : ℕ) → stands (coreOf t k .state) ≡ true → (j : ℕ) × Goes t j
-  somebody-goes k = go (coreOf t k .state) refl
+  somebody-goes k = registered
     where
       found :
           (i : ℕ) →
@@ -161,24 +167,16 @@ module _ (t : Table) (g : Good t) where
       found i l (inl x) = (i, x)
       found i l (inr x) = second-goes i l (x .0)
 
-      waiting : coreOf t k .state ≡ Waiting → (j : ℕ) × Goes t j
-      waiting e =
+      -- at its first unit
+      registered : stands (coreOf t k .state) ≡ true → (j : ℕ) × Goes t j
+      registered s =
           let c = coreOf t k in
-          let l = live-small t (g .shaped) k (ap isIdle e) in
-          let h = first-in t (g .sound) k l (ap isIdle e) in
-          let agrees = g .sound .unit (c .first .0) h .agrees k l in
-          let v = shows (registerOf t (c .first .0) k) (c .own) false
-          (simp (e, eq-eqb (c .first .0) (c .first .0) refl) at agrees) .valid in
+          let live = stands-live (c .state) s in
+          let l = live-small t (g .shaped) k live in
+          let h = first-in t (g .sound) k l (live-busy (c .state) live) in
+          let v = at-first c (registerOf t (c .first .0) k) s (g .sound .unit (c .first .0) h .agrees k l) .shows .valid in
           let w = flag-there t (g .sound) (c .first .0) k h l v in
           found (w .0) (w .1) (flag-goes (c .first .0) (w .0) h (w .1) (w .2))
-
-      go : (z : State) → coreOf t k .state ≡ z → stands z ≡ true → (j : ℕ) × Goes t j
-      go Idle e s = absurd (clash s refl)
-      go Waiting e s = waiting e
-      go Holding e s = (k, inl (ap holds e))
-      go WaitingSecond e s = second-goes k (live-small t (g .shaped) k (ap isIdle e)) e
-      go HoldingBoth e s = (k, inl (ap holds e))
-      go Away e s = absurd (clash s refl)
 
 pub never-stuck : NeverStuck
 never-stuck p k r s = let n = numbered p r in somebody-goes (p .table) (n .1 .good) k s

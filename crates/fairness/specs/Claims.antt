@@ -1,4 +1,5 @@
--- Demand 3, claim by claim. The step s, from the place p, enters core k at unit u; onward p s is the place after its entry.
+-- Demand 3, claim by claim, of both profiles; they part only where the bound does. The step s, from the place p, enters core k at unit u; onward p s
+-- is the place after its entry.
 use Prim.Native.Nat.{ℕ, _+_, _≤_, _<_}
 use mathlib.Core.Bool.{true, false, cond}
 use mathlib.Core.List.{List}
@@ -13,6 +14,7 @@ use Rattle.parts.specs.Parts.{coreNo}
 use Rattle.block.specs.Table.{coreOf}
 use Rattle.parts.specs.Answer.{numberOf}
 use Rattle.block.specs.Steps.{step}
+use Rattle.parts.specs.declared.kinds.Profile.the-variants.{T, D}
 use Rattle.parts.specs.declared.answer.Step.{Step}
 use Rattle.parts.specs.declared.answer.Step.the-variants.{P}
 use Rattle.fairness.specs.Run.{Place, Reached, onward, afterAll}
@@ -42,14 +44,35 @@ NoOvertaking =
     gives u j (grants (afterAll (onward p s) more) z) ≡ true →
     onward (afterAll (onward p s) more) z .issue j < onward p s .issue k
 
--- "at most as often as earlier tickets were live at its entry plus the interrupts accepted meanwhile from the cores that own them"
+-- T: "at most as often as earlier tickets were live at its entry plus the interrupts accepted meanwhile from the cores that own them"
 abbrev pub Bound : Type 0
 Bound =
     (p : Place) (s : Step) (k u : ℕ) (more : List Step) →
+    p .table .counts .profile ≡ T →
     Reached p →
     enters p s k u ≡ true →
     stretch k u (onward p s) more ≡ true →
     passed u (onward p s) more ≤ earlier (onward p s) k + interruptions (onward p s) k (onward p s) more
+
+-- D: "Demand 3's bound here is the number of earlier live tickets alone"
+abbrev pub BoundD : Type 0
+BoundD =
+    (p : Place) (s : Step) (k u : ℕ) (more : List Step) →
+    p .table .counts .profile ≡ D →
+    Reached p →
+    enters p s k u ≡ true →
+    stretch k u (onward p s) more ≡ true →
+    passed u (onward p s) more ≤ earlier (onward p s) k
+
+-- and D stays below it: whoever has the flag at the entry is earlier, and its ticket is not granted again
+abbrev pub NeverReached : Type 0
+NeverReached =
+    (p : Place) (s : Step) (k u : ℕ) (more : List Step) →
+    p .table .counts .profile ≡ D →
+    Reached p →
+    enters p s k u ≡ true →
+    stretch k u (onward p s) more ≡ true →
+    passed u (onward p s) more < earlier (onward p s) k
 
 -- "In every state reached where a core stands at a unit, some core holds all it asked for or would be granted at its next poll."
 abbrev pub NeverStuck : Type 0

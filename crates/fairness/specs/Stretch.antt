@@ -1,5 +1,5 @@
 -- "While a core that entered a first-class unit is neither granted there nor interrupted": the stretch that begins with the accepted R
--- or C, and what is counted in it.
+-- or C, and what is counted in it. In D too "I ends a wait and C opens one", where the core stayed registered as well.
 use Prim.Native.Nat.{ℕ, _+_}
 use mathlib.Core.Bool.{Bool, true, false, _&&_, _||_, not}
 use mathlib.Core.List.{List, [], _∷_}
@@ -7,7 +7,7 @@ use lib.Dec.{eqb, ltb}
 use Rattle.ticket.specs.declared.kinds.Grant.{Grant}
 use Rattle.parts.specs.Fold.{some, one, count}
 use Rattle.parts.specs.Answer.{whose}
-use Rattle.parts.specs.State.{isIdle}
+use Rattle.parts.specs.State.{isLive}
 use Rattle.parts.specs.Parts.{cores}
 use Rattle.block.specs.Table.{coreOf}
 use Rattle.block.specs.Steps.{step}
@@ -48,9 +48,9 @@ leaves k u p s = gives u k (grants p s) || interrupts (p .table) s k
 abbrev pub stretch : ℕ → ℕ → Place → List Step → Bool
 stretch k u p steps = over onward (λ q. true) (λ q s later. not (leaves k u q s) && later) p steps
 
--- "A ticket is live from its request to its release, also while its core is away."
+-- "A ticket is live from its request to its release, also while its core is away"; in D until its core is dropped
 abbrev pub live : Place → ℕ → Bool
-live p j = not (isIdle (coreOf (p .table) j .state))
+live p j = isLive (coreOf (p .table) j .state)
 
 -- "earlier tickets .. live at its entry": e is the place after the entry, where core k's ticket has its number. Core j's ticket is one of
 -- them; how many they are; the number i is that of one of them

@@ -4,12 +4,14 @@ use lines::line_end;
 use numbers::Field;
 use numbers::read_field;
 use parts::Counts;
+use parts::Fill;
+use parts::Profile;
 use parts::in_range;
 use ticket::Ticket;
 ghost use mathlib.Core.Path.{_≡_};
 ghost use Prim.Native.Nat.{_+_, _-_, _≤_, _<_};
 ghost use lib.ListN.{length, take, drop};
-ghost use Rattle.headers.specs.Header.{withCounter, withSecond, withFirst, withCores, parseHeader, headerLine, readHeader, headerLineNumber, headerNumber};
+ghost use Rattle.headers.specs.Header.{withCounter, withSecond, withFirst, withCores, withLetter, parseHeader, headerLine, readHeader, headerLineNumber, headerNumber};
 
 // The bytes of a line as a header.
 pub enum ParsedHeader {
@@ -26,8 +28,8 @@ pub enum HeaderLine {
 }
 
 // The last of a header's numbers: f is its field.
-fn with_counter(a: u16, b: u16, c: u16, f: Field) -> ParsedHeader
-    ensures { λ r. ⌜ r ≡ withCounter a b c f ⌝ }
+fn with_counter(p: Profile, a: u16, b: u16, c: u16, f: Field) -> ParsedHeader
+    ensures { λ r. ⌜ r ≡ withCounter p a b c f ⌝ }
 {
     match f {
         Field::Bad => ParsedHeader::Not,
@@ -36,6 +38,8 @@ fn with_counter(a: u16, b: u16, c: u16, f: Field) -> ParsedHeader
                 cores: a,
                 first: b,
                 second: c,
+                profile: p,
+                fill: Fill::Blank,
             };
             ParsedHeader::Good(counts, Ticket(n))
         }
@@ -44,36 +48,49 @@ fn with_counter(a: u16, b: u16, c: u16, f: Field) -> ParsedHeader
 }
 
 // The third: f is its field.
-fn with_second(s: &[u8], a: u16, b: u16, f: Field) -> ParsedHeader
-    ensures { λ r. ⌜ r ≡ withSecond (now (s .entry)) a b f ⌝ }
+fn with_second(s: &[u8], p: Profile, a: u16, b: u16, f: Field) -> ParsedHeader
+    ensures { λ r. ⌜ r ≡ withSecond (now (s .entry)) p a b f ⌝ }
 {
     match f {
         Field::Bad => ParsedHeader::Not,
         Field::Last(_) => ParsedHeader::Not,
-        Field::Then(c, i) => with_counter(a, b, c, read_field(s, i)),
+        Field::Then(c, i) => with_counter(p, a, b, c, read_field(s, i)),
     }
 }
 
 // The second: f is its field.
-fn with_first(s: &[u8], a: u16, f: Field) -> ParsedHeader
-    ensures { λ r. ⌜ r ≡ withFirst (now (s .entry)) a f ⌝ }
+fn with_first(s: &[u8], p: Profile, a: u16, f: Field) -> ParsedHeader
+    ensures { λ r. ⌜ r ≡ withFirst (now (s .entry)) p a f ⌝ }
 {
     match f {
         Field::Bad => ParsedHeader::Not,
         Field::Last(_) => ParsedHeader::Not,
-        Field::Then(b, i) => with_second(s, a, b, read_field(s, i)),
+        Field::Then(b, i) => with_second(s, p, a, b, read_field(s, i)),
     }
 }
 
 // The first: f is its field.
-fn with_cores(s: &[u8], f: Field) -> ParsedHeader
-    ensures { λ r. ⌜ r ≡ withCores (now (s .entry)) f ⌝ }
+fn with_cores(s: &[u8], p: Profile, f: Field) -> ParsedHeader
+    ensures { λ r. ⌜ r ≡ withCores (now (s .entry)) p f ⌝ }
 {
     match f {
         Field::Bad => ParsedHeader::Not,
         Field::Last(_) => ParsedHeader::Not,
-        Field::Then(a, i) => with_first(s, a, read_field(s, i)),
+        Field::Then(a, i) => with_first(s, p, a, read_field(s, i)),
     }
+}
+
+// The letter is read, and gives the profile; f is the field after it.
+fn with_letter(s: &[u8], letter: u8, f: Field) -> ParsedHeader
+    ensures { λ r. ⌜ r ≡ withLetter (now (s .entry)) letter f ⌝ }
+{
+    if letter == b'T' {
+        return with_cores(s, Profile::T, f);
+    }
+    if letter == b'D' {
+        return with_cores(s, Profile::D, f);
+    }
+    ParsedHeader::Not
 }
 
 // The bytes of a line, without its end, as a header.
@@ -83,8 +100,8 @@ fn parse_header(s: &[u8]) -> ParsedHeader
     if s.len() < 2 {
         return ParsedHeader::Not;
     }
-    if (s[0] == b'T') & (s[1] == 9) {
-        with_cores(s, read_field(s, 2))
+    if s[1] == 9 {
+        with_letter(s, s[0], read_field(s, 2))
     } else {
         ParsedHeader::Not
     }
@@ -98,7 +115,8 @@ fn header_at(s: &[u8], at: usize, e: usize) -> HeaderLine
     match parse_header(&s[at..e]) {
         ParsedHeader::Good(c, n) => {
             if in_range(c) {
-                HeaderLine::Header(c, n, e + 1)
+                let next = e + 1;
+                HeaderLine::Header(c, n, next)
             } else {
                 HeaderLine::BadHeader
             }

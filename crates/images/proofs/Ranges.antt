@@ -1,18 +1,15 @@
 -- Counts in range: where an image's words stand, and that their number is small.
 use Prim.Native.Nat.{ℕ, suc, _+_, _*_, _/_, _%_, _≤_, _<_}
-use mathlib.Core.Bool.{true, _&&_}
+use mathlib.Core.Bool.{true}
 use mathlib.Core.Path.{_≡_, sym, _∙_, ap, subst}
 use native.Mathlib.Nat.{add-zero, suc-mul, div-lt-iff-lt-mul, div-eq-of-lt, mul-add-div-right, mul-add-mod-self-right, mod-eq-of-lt, mod-lt, mul-le-mul, mul-le-mul-right}
 use native.Mathlib.Omega.{arith}
-use lib.Dec.{leb}
 use mir.Syntax.{w64}
 use mir.Val.{Fits}
-use borrow.Author.Tests.{leb-true}
 use Rattle.parts.specs.Parts.{cores, units}
-use Rattle.parts.specs.Range.{perClass, inRange}
+use Rattle.parts.specs.Range.{inRange}
 use Rattle.parts.specs.declared.kinds.Counts.{Counts}
-use Rattle.parts.proofs.Bools.{and-left, and-right}
-use Rattle.parts.proofs.Ranging.{cores-few}
+use Rattle.parts.proofs.Ranging.{cores-few, first-few, second-few}
 use Rattle.images.specs.Image.{perUnit, unitCount, wordCount}
 
 -- how many words the largest table has; and how many bytes a unit: four for each register, eight for the next in line
@@ -25,11 +22,8 @@ unitBytes = 4 * cores + 8
 module _ (c : Counts) (e : inRange c ≡ true) where
   pub units-few : unitCount c ≤ units
   units-few =
-      let a = leb 1 (c .cores) && leb (c .cores) cores && leb 1 (c .first) in
-      let b = leb (c .first) perClass in
-      let d = leb (c .second) perClass in
-      let first = leb-true (c .first) perClass (and-right a b (and-left (a && b) d e)) in
-      let second = leb-true (c .second) perClass (and-right (a && b) d e) in
+      let first = first-few c e in
+      let second = second-few c e in
       omega arith
 
   pub few-words : wordCount c ≤ wordsMost

@@ -1,6 +1,6 @@
--- The grants of settling, and so those of every step. Settling lists exactly the grants that are due, by rising unit, since a unit is
--- settled as it was before the others; an accepted step leaves at most one unit of each class to settle, and whoever is in line
--- waits there.
+-- The grants of settling, and so those of every step. Where nobody next is away, settling lists exactly the grants that are due, by rising unit, since a
+-- unit is settled as it was before the others, and whoever is granted waits there. An accepted step leaves at most one unit of each class to
+-- settle.
 use Prim.Native.Nat.{ℕ, suc, _≤_, _<_}
 use mathlib.Core.Bool.{Bool, true, false, cond, _&&_, _||_, not}
 use mathlib.Core.List.{List, [], _∷_, _++_, List·Memᴰ, List·Memᴰ·head, List·Memᴰ·tail, List·Memᴰ·not-nil, List·Memᴰ·eq-of-singleton, List·Memᴰ·append-cases, Memᴰ·append-left, Memᴰ·append-right}
@@ -8,24 +8,30 @@ use mathlib.Core.Logic.{_⊎_, inl, inr, ⊎-elim, _≢_}
 use mathlib.Core.Path.{_≡_, refl, sym, _∙_, ap, subst}
 use native.Mathlib.Nat.{not-suc-le-zero}
 use native.Mathlib.Omega.{arith}
-use lib.Dec.{eqb}
+use lib.Dec.{eqb, ltb}
 use lib.ListN.{getD}
 use borrow.Author.Tests.{eqb-true, eq-eqb}
 use Rattle.ticket.specs.Kinds.{grant}
 use Rattle.ticket.specs.declared.kinds.CoreNo.{CoreNo}
 use Rattle.ticket.specs.declared.kinds.Grant.{Grant}
 use Rattle.ticket.specs.declared.kinds.Ticket.{Ticket}
-use Rattle.parts.specs.State.{stands, twoStage, waits}
+use Rattle.parts.specs.State.{isAway, stands, twoStage, waits}
+use Rattle.parts.specs.Profile.{dequeues}
 use Rattle.parts.specs.Parts.{cores, units, unitNo, standing, idle, registerIn}
 use Rattle.block.specs.Table.{coreOf, unitOf, registerOf, unitCount, withRegister, withCore, withCounter, Shaped}
-use Rattle.parts.specs.Answer.{packed}
-use Rattle.block.specs.Settle.{winner, Settling, settleNext, settle}
-use Rattle.settling.specs.Line.{flags, inLine, next, won}
+use Rattle.parts.specs.Answer.{whose, packed}
+use Rattle.block.specs.Settle.{winner, Settling, dropAt, grantNext, settle}
+use Rattle.settling.specs.Line.{flags, inLine, next, stored, won}
+use Rattle.settling.specs.Dropping.{awayAs}
 use Rattle.block.specs.Sound as S
 use Rattle.block.specs.Sound.{sound}
 use Rattle.laws.specs.Granting.{listed, Rising, Due, DueIn, anyInLine}
-use Rattle.block.specs.Steps.{giveUp, awaited, onSound, answered, refusal, verdict, moves, performed}
-use Rattle.block.proofs.Touched.{Quiet, QuietTable}
+use Rattle.block.specs.Steps.{giveUp, awaited, onSound, answered, refusal, verdict, affected, moves, performed}
+use Rattle.block.specs.Skipping.{givesUp, firstOf}
+use Rattle.effects.specs.Effect.{interrupt}
+use Rattle.effects.specs.declared.kinds.Effect.{Effect}
+use Rattle.parts.specs.declared.kinds.Profile.{Profile}
+use Rattle.parts.specs.declared.kinds.Profile.the-variants.{T, D}
 use Rattle.parts.specs.declared.kinds.Core.{Core}
 use Rattle.parts.specs.declared.kinds.LockUnit.{LockUnit}
 use Rattle.parts.specs.declared.kinds.Register.{Register}
@@ -39,21 +45,25 @@ use Rattle.parts.specs.declared.answer.Step.the-variants.{R, N, P, I, C, L}
 use Rattle.block.specs.declared.stepped.Stepped.{Stepped}
 use Rattle.refusals.specs.declared.verdict.Verdict.{Verdict}
 use Rattle.refusals.specs.declared.verdict.Verdict.the-variants.{Allowed, Refused}
-use Rattle.parts.proofs.Along.{same-or-not, along, upTo-cong}
+use Rattle.parts.proofs.Along.{same-or-not, upTo-cong}
 use Rattle.block.proofs.Almost.{Almost}
 use Rattle.block.proofs.Agreeing.{line-waits}
+use Rattle.block.proofs.Allows.{may-come-back}
 use Rattle.block.proofs.Answering.{request-in, nest-in, poll-in, interrupt-in, come-back-in, release-in}
 use Rattle.parts.proofs.Bools.{clash}
 use Rattle.parts.proofs.Folds.{at-some, none-some, count-none}
-use Rattle.block.proofs.Kept.{Two as Both, names-two, two-stage, moves-almost}
+use Rattle.block.proofs.Kept.{Two as Both, names-two, two-stage, moves-almost, moves-core}
 use Rattle.block.proofs.Parts.{parts}
 use Rattle.settling.proofs.Picking.{next-won}
 use Rattle.block.proofs.Oldest.{oldest-nobody}
-use Rattle.laws.proofs.Settling.{settle-same}
+use Rattle.block.proofs.Suited.{two-in-T}
 use Rattle.block.proofs.Standing.{sound-quiet}
-use Rattle.block.proofs.Stepping.{waiting-stands, quiet-elsewhere, first-unit, second-unit, clears-one, clears-two, one-quiet, two-quiet, inherited, carrying, poll-moves, carrying-calm, awaited-second}
-use Rattle.block.proofs.Touched.{settleAt}
-use Rattle.block.proofs.Touching.{calm-winner, settle-none, settle-one, settle-two, settleAt-unit}
+use Rattle.block.proofs.Stepping.{waiting-stands, quiet-elsewhere, first-unit, second-unit, clears-one, clears-two, one-quiet, two-quiet, inherited, carrying, poll-moves, come-cases, carrying-calm, awaited-second}
+use Rattle.block.proofs.Touched.{Quiet, QuietTable, AllPresent}
+use Rattle.block.proofs.Touching.{calm-winner, drop-present, settle-none, settle-only, settle-two, settleAt-unit}
+use Rattle.block.proofs.Presence.{moves-present}
+use Rattle.laws.proofs.Settling.{Ahead, settle-along, settle-cores}
+use Rattle.laws.proofs.Keeping.{worked}
 
 -- Who wins a unit
 
@@ -105,16 +115,14 @@ rising-join (g ∷ l) m a b apart = (
 
 -- after the units below n
 record SettledTo (t : Table) (n : ℕ) (z : Settling) : Type 0 where
-  ahead : (v : ℕ) → n ≤ v → unitOf (z .table) v ≡ unitOf t v
   due : (g : Grant) → List·Memᴰ g (z .grants) → (g .unit .0 < n) × Due (unitOf t (g .unit .0)) (g .core)
   all : (g : Grant) → g .unit .0 < n → Due (unitOf t (g .unit .0)) (g .core) → List·Memᴰ g (z .grants)
   rising : Rising (z .grants)
 
-module _ (t : Table) where
-  settled-turn : (n : ℕ) (z : Settling) → SettledTo t n z → SettledTo t (suc n) (settleNext n z)
-  settled-turn n z s =
+module _ (t : Table) (present : AllPresent t) where
+  settled-turn : (n : ℕ) (z : Settling) → Ahead t n (z .table) → SettledTo t n z → SettledTo t (suc n) (grantNext n z)
+  settled-turn n z ahead s =
       record {
-        ahead = λ v h. settleAt-unit (z .table) n v (λ e. omega arith) ∙ s .ahead v (omega arith);
         due = λ g m. ⊎-elim (before g) (last g) (List·Memᴰ·append-cases (z .grants) m);
         all = λ g h d. all g h d (same-or-not (g .unit .0) n);
         rising =
@@ -123,7 +131,7 @@ module _ (t : Table) where
       }
     where
       here : winner (unitOf (z .table) n) ≡ winner (unitOf t n)
-      here = ap winner (s .ahead n (omega arith))
+      here = ap winner (ahead .unit n (omega arith))
 
       before : (g : Grant) → List·Memᴰ g (z .grants) → (g .unit .0 < suc n) × Due (unitOf t (g .unit .0)) (g .core)
       before g m = let d = s .due g m in (omega arith, d .1)
@@ -145,7 +153,7 @@ module _ (t : Table) where
           g .unit .0 < suc n →
           Due (unitOf t (g .unit .0)) (g .core) →
           (g .unit .0 ≡ n) ⊎ (g .unit .0 ≢ n) →
-          List·Memᴰ g (settleNext n z .grants)
+          List·Memᴰ g (grantNext n z .grants)
       all g h d (inl e) =
           Memᴰ·append-right (z .grants)
           (subst (λ (b : Best). List·Memᴰ g (won n b)) (sym here)
@@ -155,14 +163,9 @@ module _ (t : Table) where
   settled-to : SettledTo t units (settle t)
   unfolding Rising
   settled-to =
-      along (SettledTo t) settleNext (record { table = t; grants = [] })
-      (record {
-        ahead = λ v h. refl;
-        due = λ g m. absurd (List·Memᴰ·not-nil m);
-        all = λ g h d. absurd (not-suc-le-zero h);
-        rising = tt;
-      })
-      units (λ n h. settled-turn n)
+      settle-along t present (SettledTo t)
+      (record { due = λ g m. absurd (List·Memᴰ·not-nil m); all = λ g h d. absurd (not-suc-le-zero h); rising = tt })
+      (λ n h z ahead here. settled-turn n z ahead)
 
   -- the grants are those due, by rising unit
   pub settled-exactly :
@@ -202,7 +205,7 @@ line-due t a u h none line = go (next cores (unitOf t u)) refl
     go (Won k n) q = (k, record { free = none; ticket = n; oldest = q })
 
 -- the units that are granted, of a table that is sound but perhaps for flags to be set: by registers in line, and by valid registers
-module _ (t : Table) (a : Almost t) (u : ℕ) (h : u < units) where
+module _ (t : Table) (present : AllPresent t) (a : Almost t) (u : ℕ) (h : u < units) where
   abbrev Given : Type 0
   Given = (k : CoreNo) × List·Memᴰ (grant (unitNo u) k) (settle t .grants)
 
@@ -210,10 +213,10 @@ module _ (t : Table) (a : Almost t) (u : ℕ) (h : u < units) where
       (Given → (flags cores (unitOf t u) ≡ 0) × (anyInLine (unitOf t u) ≡ true)) ×
       ((flags cores (unitOf t u) ≡ 0) × (anyInLine (unitOf t u) ≡ true) → Given)
   settled-in-line = (
-    λ g. let d = settled-exactly t (grant (unitNo u) (g .0)) .0 (g .1) .due in (d .free, due-line (unitOf t u) (g .0) d),
+    λ g. let d = settled-exactly t present (grant (unitNo u) (g .0)) .0 (g .1) .due in (d .free, due-line (unitOf t u) (g .0) d),
     λ e.
         let d = line-due t a u h (e .0) (e .1) in
-        (d .0, settled-exactly t (grant (unitNo u) (d .0)) .1 (record { place = h; due = d .1 })),
+        (d .0, settled-exactly t present (grant (unitNo u) (d .0)) .1 (record { place = h; due = d .1 })),
   )
 
   pub settled-valid :
@@ -224,7 +227,7 @@ module _ (t : Table) (a : Almost t) (u : ℕ) (h : u < units) where
     λ e. settled-in-line .1 (e .0, free-line (unitOf t u) (e .0) ∙ e .1),
   )
 
--- Whoever is in line waits there
+-- Whoever is in line and not away waits there
 
 pub in-line-awaits :
     (t : Table) (u k : ℕ) →
@@ -232,38 +235,43 @@ pub in-line-awaits :
     u < units →
     k < cores →
     inLine (registerOf t u k) ≡ true →
+    isAway (coreOf t k .state) ≡ false →
     (waits (coreOf t k .state) ≡ true) × (awaited (coreOf t k) ≡ u)
 in-line-awaits t u k a h l = line-waits (coreOf t k) u (registerOf t u k) (a .agrees u h k l)
 
 -- so the core of a grant waits for its unit, before settling and after
 pub settled-waiting :
     (t : Table) →
+    AllPresent t →
     Almost t →
     (g : Grant) →
     List·Memᴰ g (settle t .grants) →
     (waits (coreOf (settle t .table) (g .core .0) .state) ≡ true) × (awaited (coreOf (settle t .table) (g .core .0)) ≡ g .unit .0)
-settled-waiting t a g m =
-    let d = settled-exactly t g .0 m in
+settled-waiting t present a g m =
+    let d = settled-exactly t present g .0 m in
     let w = next-won cores (unitOf t (g .unit .0)) (g .core) (d .due .ticket) (d .due .oldest) in
+    let here = ap (awayAs (t .cores)) (sym (d .due .oldest)) ∙ present (g .unit .0) (d .place) (d .due .free) in
     subst (λ (l : List Core). (waits (getD l (g .core .0) idle .state) ≡ true) × (awaited (getD l (g .core .0) idle) ≡ g .unit .0))
-    (sym (settle-same t .0))
-    (in-line-awaits t (g .unit .0) (g .core .0) a (d .place) (w .2) (w .0))
+    (sym (settle-cores t present))
+    (in-line-awaits t (g .unit .0) (g .core .0) a (d .place) (w .2) (w .0) here)
 
 -- Settling where all but one or two units are quiet
 
 module _ (t : Table) (u : ℕ) (h : u < units) where
+  -- the one unit, with those away in front dropped
   pub settle-at-one :
-      ((v : ℕ) → v < units → v ≢ u → Quiet (unitOf t v)) → settle t .grants ≡ won u (winner (unitOf t u))
-  settle-at-one quiet = ap (λ (z : Settling). z .grants) (settle-one t u h quiet)
+      ((v : ℕ) → v < units → v ≢ u → Quiet (unitOf t v)) → settle t .grants ≡ won u (winner (unitOf (dropAt t u) u))
+  settle-at-one quiet = ap (λ (z : Settling). z .grants) (settle-only t u h quiet)
 
   pub settle-at-two :
+      AllPresent t →
       (w : ℕ) →
       u < w →
       w < units →
       ((v : ℕ) → v < units → v ≢ u → v ≢ w → Quiet (unitOf t v)) →
       settle t .grants ≡ won u (winner (unitOf t u)) ++ won w (winner (unitOf t w))
-  settle-at-two w l m quiet =
-      ap (λ (z : Settling). z .grants) (settle-two t u h w l m quiet) ∙
+  settle-at-two present w l m quiet =
+      ap (λ (z : Settling). z .grants) (settle-two t u h (present u h) w l m (present w m) quiet) ∙
       ap (λ (x : LockUnit). won u (winner (unitOf t u)) ++ won w (winner x)) (settleAt-unit t u w (λ e. omega arith))
 
 -- the first of two grants is of a first-class unit, the second of a second-class one
@@ -322,13 +330,17 @@ module _ (t : Table) (s : sound t ≡ true) where
     abbrev entering : Table
     entering = withCounter (withCore (withRegister t u k (standing n)) k c) m
 
-    pub enter-grants : settle entering .grants ≡ won u (winner (unitOf entering u))
-    enter-grants = settle-at-one entering u h (quiet-elsewhere t u k (standing n) quiet)
-
     enter-brief : Brief t (settle entering .grants)
-    enter-brief = subst (Brief t) (sym enter-grants) (brief-one t u (winner (unitOf entering u)))
+    enter-brief = subst (Brief t) (sym (settle-at-one entering u h (quiet-elsewhere t u k (standing n) quiet))) (brief-one t u (winner (unitOf (dropAt entering u) u)))
 
-  -- a core that gives up every register touches the one or two units where it stood
+  -- a core that keeps its registers touches none
+  none-granted : (z : Table) → QuietTable z → settle z .grants ≡ []
+  none-granted z q = ap (λ (y : Settling). y .grants) (settle-none z q)
+
+  none-brief : (z : Table) → QuietTable z → Brief t (settle z .grants)
+  none-brief z q = subst (Brief t) (sym (none-granted z q)) (brief-none t)
+
+  -- one that gives up every register touches the one or two units where it stood; where it stood at two, nobody is away
   module _ (k : ℕ) (m : Ticket) (c : Core) (i : (k < cores) × (stands (coreOf t k .state) ≡ true)) where
     abbrev was : Core
     was = coreOf t k
@@ -336,40 +348,33 @@ module _ (t : Table) (s : sound t ≡ true) where
     abbrev freeing : Table
     freeing = withCounter (withCore (giveUp t k) k c) m
 
-    pub free-grants-one : twoStage (was .state) ≡ false → settle freeing .grants ≡ won (was .first .0) (winner (unitOf freeing (was .first .0)))
-    free-grants-one one =
-        settle-at-one freeing (was .first .0) (first-unit t k (i .0) s (i .1))
-        (λ v l d. subst (λ (y : Table). Quiet (unitOf y v)) (sym (clears-one t k (i .0) s (i .1) one)) (one-quiet t k (i .0) s (i .1) v l d))
-
-    pub free-grants-two :
-        twoStage (was .state) ≡ true →
-        settle freeing .grants ≡
-        won (was .first .0) (winner (unitOf freeing (was .first .0))) ++
-        won (was .second .0) (winner (unitOf freeing (was .second .0)))
-    free-grants-two two =
-        let b = second-unit t k (i .0) s (i .1) two in
-        settle-at-two freeing (was .first .0) (first-unit t k (i .0) s (i .1)) (was .second .0) (b .0) (b .1)
-        (λ v l d d'.
-        subst (λ (y : Table). Quiet (unitOf y v)) (sym (clears-two t k (i .0) s (i .1) two)) (two-quiet t k (i .0) s (i .1) v l d d'))
-
-    free-brief : Brief t (settle freeing .grants)
-    free-brief = go (twoStage (was .state)) refl
+    free-brief : (twoStage (was .state) ≡ true → AllPresent freeing) → Brief t (settle freeing .grants)
+    free-brief present = go (twoStage (was .state)) refl
       where
+        first-place : was .first .0 < units
+        first-place = first-unit t k (i .0) s (i .1)
+
         go : (b : Bool) → twoStage (was .state) ≡ b → Brief t (settle freeing .grants)
         go true two =
+            let b = second-unit t k (i .0) s (i .1) two in
             let named = parts t s .core k (i .0) .named in
-            subst (Brief t) (sym (free-grants-two two))
-            (brief-two t was (names-two t was (simp (two-stage (was .state) two .live, two) at named))
+            subst (Brief t)
+            (sym
+            (settle-at-two freeing (was .first .0) first-place (present two) (was .second .0) (b .0) (b .1)
+            (λ v l d d'.
+            subst (λ (y : Table). Quiet (unitOf y v)) (sym (clears-two t k (i .0) s (i .1) two)) (two-quiet t k (i .0) s (i .1) v l d d'))))
+            (brief-two t was (names-two t was (simp (two-stage (was .state) two .busy, two) at named))
             (winner (unitOf freeing (was .first .0)))
             (winner (unitOf freeing (was .second .0))))
         go false one =
-            subst (Brief t) (sym (free-grants-one one)) (brief-one t (was .first .0) (winner (unitOf freeing (was .first .0))))
+            subst (Brief t)
+            (sym
+            (settle-at-one freeing (was .first .0) first-place
+            (λ v l d. subst (λ (y : Table). Quiet (unitOf y v)) (sym (clears-one t k (i .0) s (i .1) one)) (one-quiet t k (i .0) s (i .1) v l d))))
+            (brief-one t (was .first .0) (winner (unitOf (dropAt freeing (was .first .0)) (was .first .0))))
 
   -- a poll grants nothing: where it shows another ticket, the unit has its flag elsewhere
   module _ (k : CoreNo) (may : verdict t (P k) ≡ Allowed) where
-    none-granted : (z : Table) → QuietTable z → settle z .grants ≡ []
-    none-granted z q = ap (λ (z : Settling). z .grants) (settle-none z q)
-
     carry-grants :
         registerOf t (awaited (coreOf t (k .0))) (k .0) .flag ≡ false →
         twoStage (coreOf t (k .0) .state) ≡ true →
@@ -377,11 +382,13 @@ module _ (t : Table) (s : sound t ≡ true) where
         settle (carrying t (k .0) n) .grants ≡ []
     carry-grants clear two n =
         let i = poll-in t k s may in
+        let z = carrying t (k .0) n in
         let v = coreOf t (k .0) .second .0 in
         let place = second-unit t (k .0) (i .0) s (waiting-stands (coreOf t (k .0) .state) (i .1)) two .1 in
         let calm = carrying-calm t (k .0) (i .0) s (i .1) two (awaited-second t (k .0) two clear) n v place in
-        settle-at-one (carrying t (k .0) n) v place (quiet-elsewhere t v (k .0) (standing n) quiet) ∙
-        ap (won v) (calm-winner (unitOf (carrying t (k .0) n) v) calm)
+        settle-at-one z v place (quiet-elsewhere t v (k .0) (standing n) quiet) ∙
+        ap (λ (y : Table). won v (winner (unitOf y v))) (drop-present z v (λ none. ap (awayAs (z .cores)) (calm none))) ∙
+        ap (won v) (calm-winner (unitOf z v) calm)
 
     pub poll-grants : settle (moves t (P k)) .grants ≡ []
     poll-grants =
@@ -389,29 +396,62 @@ module _ (t : Table) (s : sound t ≡ true) where
         (λ f two. carry-grants f two (inherited t (coreOf t (k .0))))
         (none-granted t quiet)
 
+module _ (t : Table) (shaped : Shaped t) (s : sound t ≡ true) where
+  -- no step of a core with a second unit drops anybody: the profile is T
+  two-present : (step : Step) → verdict t step ≡ Allowed → twoStage (coreOf t (whose step .0) .state) ≡ true → AllPresent (moves t step)
+  two-present step may two =
+      let k = whose step .0 in
+      let c = coreOf t k in
+      moves-present t step shaped s may
+      (ap
+      (λ (p : Profile).
+      dequeues p && ltb k (t .counts .cores) && givesUp step (c .state) && registerOf t (firstOf t step) k .flag &&
+      awayAs (t .cores) (stored (unitOf t (firstOf t step) .next)))
+      (two-in-T (t .counts .profile) (c .state) (parts t s .core k (moves-core t shaped (parts t s) step may) .suited) two))
+
   brief : (step : Step) → verdict t step ≡ Allowed → Brief t (settle (moves t step) .grants)
-  brief (R k u) may = enter-brief (u .0) (k .0) _ _ _ (request-in t k s u may .1)
-  brief (N k u) may = enter-brief (u .0) (k .0) _ _ _ (nest-in t k s u may .1)
-  brief (P k) may = subst (Brief t) (sym (poll-grants k may)) (brief-none t)
-  brief (I k) may = free-brief (k .0) _ _ (interrupt-in t k s may)
-  brief (C k) may = enter-brief (coreOf t (k .0) .first .0) (k .0) _ _ _ (come-back-in t k s may .1)
-  brief (L k) may = free-brief (k .0) _ _ (release-in t k s may)
+  brief (R k u) may = enter-brief t s (u .0) (k .0) _ _ _ (request-in t k s u may .1)
+  brief (N k u) may = enter-brief t s (u .0) (k .0) _ _ _ (nest-in t k s u may .1)
+  brief (P k) may = subst (Brief t) (sym (poll-grants t s k may)) (brief-none t)
+  brief (I k) may = go (t .counts .profile) (registerOf t (awaited c) (k .0) .flag) (two-present (I k) may)
+    where
+      c : Core
+      c = coreOf t (k .0)
+
+      go :
+          (p : Profile) (f : Bool) →
+          let z = affected t (k .0) (interrupt p (t .counter) c f) in
+          (twoStage (c .state) ≡ true → AllPresent z) →
+          Brief t (settle z .grants)
+      go T f present = free-brief t s (k .0) _ _ (interrupt-in t k s may) present
+      go D true present = free-brief t s (k .0) _ _ (interrupt-in t k s may) present
+      go D false present = none-brief t s _ (quiet t s)
+  brief (C k) may =
+      let c = coreOf t (k .0) in
+      let place = come-back-in t k s may .1 in
+      come-cases (t .counter) c (λ (e : Effect). Brief t (settle (affected t (k .0) e) .grants))
+      (λ e. enter-brief t s (c .first .0) (k .0) _ _ _ place)
+      (λ e. none-brief t s _ (quiet t s))
+      (λ e. enter-brief t s (c .first .0) (k .0) _ _ _ place)
+      (may-come-back t k may .state)
+  brief (L k) may = free-brief t s (k .0) _ _ (release-in t k s may) (two-present (L k) may)
 
 module _ (t : Table) (shaped : Shaped t) (s : sound t ≡ true) (step : Step) where
   -- an accepted step's grants are all of those that settling gives
   module _ (may : verdict t step ≡ Allowed) where
     pub settle-few : listed (packed (settle (moves t step) .grants)) ≡ settle (moves t step) .grants
-    settle-few = brief t s step may .whole
+    settle-few = brief t shaped s step may .whole
 
     pub grants-listed : listed (onSound t step .grants) ≡ settle (moves t step) .grants
     grants-listed = ap (λ (x : Stepped). listed (x .grants)) (accepted t step may) ∙ settle-few
 
-    -- so they are those due before settling
+    -- so they are those due before settling, where it drops nobody
     pub grants-exactly :
+        AllPresent (moves t step) →
         (g : Grant) →
         (List·Memᴰ g (listed (onSound t step .grants)) → DueIn (moves t step) g) ×
         (DueIn (moves t step) g → List·Memᴰ g (listed (onSound t step .grants)))
-    grants-exactly g = rw grants-listed (settled-exactly (moves t step) g)
+    grants-exactly present g = rw grants-listed (settled-exactly (moves t step) present g)
 
   -- by what the step is judged
   judged : {A : Type 0} → (verdict t step ≡ Allowed → A) → ((a : Answer) → verdict t step ≡ Refused a → A) → A
@@ -421,27 +461,55 @@ module _ (t : Table) (shaped : Shaped t) (s : sound t ≡ true) (step : Step) wh
       go Allowed e = allowed e
       go (Refused a) e = turned a e
 
-  pub granted-waiting :
-      (g : Grant) →
-      List·Memᴰ g (listed (onSound t step .grants)) →
-      (waits (coreOf (onSound t step .table) (g .core .0) .state) ≡ true) ×
-      (awaited (coreOf (onSound t step .table) (g .core .0)) ≡ g .unit .0)
-  granted-waiting g m =
-      judged
-      (λ may.
-      rw (accepted t step may)
-      (settled-waiting (moves t step) (moves-almost t shaped (parts t s) step may) g (rw (grants-listed may) at m)))
-      (λ a e. absurd (List·Memᴰ·not-nil (rw (refused t step a e) at m)))
-
-  pub grants-rising : Rising (listed (onSound t step .grants))
-  unfolding Rising
-  grants-rising = judged (λ may. rw (grants-listed may) (settled-rising (moves t step))) (λ a e. rw (refused t step a e) tt)
-
   module _ (g h : Grant) (two : onSound t step .grants ≡ Two g h) where
     pub two-classes : Classes t g h
     two-classes =
-        judged (λ may. brief t s step may .classes g h (rw (accepted t step may) at two))
+        judged (λ may. brief t shaped s step may .classes g h (rw (accepted t step may) at two))
         (λ a e. absurd (let n = ap (λ (x : Stepped). x .grants) (refused t step a e) in let z : _≡_ {A = ℕ} 0 1 = cc in omega arith))
 
     pub rising : g .unit .0 < h .unit .0
     rising = omega (arith, two-classes)
+
+-- Of every step
+
+module _ (t : Table) (shaped : Shaped t) (s : sound t ≡ true) (step : Step) where
+  module _ (g : Grant) where
+    -- each grant is of a unit and of a core
+    pub granted-placed : List·Memᴰ g (listed (onSound t step .grants)) → (g .unit .0 < units) × (g .core .0 < cores)
+    granted-placed =
+        worked step (λ x. List·Memᴰ g (listed (x .grants)) → (g .unit .0 < units) × (g .core .0 < cores))
+        (λ t shaped s present m.
+        judged t shaped s step
+        (λ may.
+        let d = grants-exactly t shaped s step may (present may) g .0 m in
+        (d .place, next-won cores (unitOf (moves t step) (g .unit .0)) (g .core) (d .due .ticket) (d .due .oldest) .2))
+        (λ a e. absurd (List·Memᴰ·not-nil (rw (refused t step a e) at m))))
+        t shaped s
+
+    pub granted-waiting :
+        List·Memᴰ g (listed (onSound t step .grants)) →
+        (waits (coreOf (onSound t step .table) (g .core .0) .state) ≡ true) ×
+        (awaited (coreOf (onSound t step .table) (g .core .0)) ≡ g .unit .0)
+    granted-waiting =
+        worked step
+        (λ x.
+        List·Memᴰ g (listed (x .grants)) →
+        (waits (coreOf (x .table) (g .core .0) .state) ≡ true) × (awaited (coreOf (x .table) (g .core .0)) ≡ g .unit .0))
+        (λ t shaped s present m.
+        judged t shaped s step
+        (λ may.
+        rw (accepted t step may)
+        (settled-waiting (moves t step) (present may) (moves-almost t shaped (parts t s) step may) g
+        (rw (grants-listed t shaped s step may) at m)))
+        (λ a e. absurd (List·Memᴰ·not-nil (rw (refused t step a e) at m))))
+        t shaped s
+
+  pub grants-rising : Rising (listed (onSound t step .grants))
+  unfolding Rising
+  grants-rising =
+      worked step (λ x. Rising (listed (x .grants)))
+      (λ t shaped s present.
+      judged t shaped s step
+      (λ may. rw (grants-listed t shaped s step may) (settled-rising (moves t step) (present may)))
+      (λ a e. rw (refused t step a e) tt))
+      t shaped s

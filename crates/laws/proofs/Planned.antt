@@ -1,6 +1,6 @@
 -- A run of a sound table, computed by the plans of its steps. A plan looks at the core and the units that its step touches, and at as many
--- cores as the table has, so that what is computed does not grow with the greatest number of cores. Each step is its plan, by the parts, and
--- leaves a table that is sound again.
+-- cores as the table has, so that what is computed does not grow with the greatest number of cores; so does skipping, which in D comes first. Each
+-- step is its plan, by the parts, and leaves a table that is sound again.
 use Prim.Native.Nat.{ℕ}
 use mathlib.Core.Bool.{true}
 use mathlib.Core.List.{List, [], _∷_}
@@ -15,17 +15,20 @@ use Rattle.block.specs.Over.{over, lastPlace}
 use Rattle.block.specs.PutBack.{putBack}
 use Rattle.block.specs.Sound.{sound}
 use Rattle.block.specs.Steps.{late, step}
+use Rattle.block.specs.Skipping.{skipped}
 use Rattle.block.specs.Table.{coreOf, unitOf, Shaped}
 use Rattle.block.specs.declared.stepped.Stepped.{Stepped}
 use Rattle.block.specs.declared.table.Table.{Table}
 use Rattle.block.proofs.ByParts.{by-parts}
+use Rattle.block.proofs.DroppedFirst.{skip-first, skipped-sound, skipped-shaped, skipped-present}
 use Rattle.building.specs.Build.{fresh}
 use Rattle.laws.specs.Shown.{fields, shown}
 use Rattle.laws.proofs.Keeping.{fresh-shaped, fresh-sound}
 use Rattle.laws.proofs.Claims.{on-sound, keeps-sound}
 
-abbrev pub planned : Table → Step → Stepped
-planned t s =
+-- the plan of a step, put back
+abbrev planOn : Table → Step → Stepped
+planOn t s =
     let k = corePlace s in
     let c = coreOf t (k .0) in
     let i = unitPlace s c in
@@ -33,8 +36,15 @@ planned t s =
     putBack t k i j
     (planStep s (t .counts) (t .counter) (late t) c (partOf (k .0) (unitOf t (i .0))) (partOf (k .0) (unitOf t (j .0))))
 
+-- on the table from which those away in front are dropped
+abbrev pub planned : Table → Step → Stepped
+planned t s = planOn (skipped t s) s
+
 pub step-planned : (t : Table) (s : Step) → Shaped t → sound t ≡ true → step t s ≡ planned t s
-step-planned t s shaped ok = on-sound t s ok ∙ sym (by-parts t s shaped ok)
+step-planned t s shaped ok =
+    on-sound t s ok ∙
+    skip-first t s shaped ok ∙
+    sym (by-parts (skipped t s) s (skipped-shaped t s shaped ok) (skipped-sound t s shaped ok) (skipped-present t s shaped ok))
 
 -- what a run keeps: the arrays' lengths, and that the table is sound
 abbrev pub Fine : Table → Type 0

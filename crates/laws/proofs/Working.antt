@@ -1,24 +1,25 @@
 -- The idle versions that document 01 shuts out, each by a step that they would answer wrongly: one that refuses every step, one with
--- a single answer, one that returns the table untouched, and one that works the first step and invents the rest.
-use Prim.Native.Nat.{ℕ, _+_, _≤_}
-use mathlib.Core.Bool.{true, false, _&&_}
+-- a single answer, one that returns the table untouched, and one that works the first step and invents the rest. And, in D, one that drops nobody.
+use Prim.Native.Nat.{ℕ, _+_}
+use mathlib.Core.Bool.{true, false}
 use mathlib.Core.List.{List, [], _∷_}
 use mathlib.Core.Path.{_≡_, refl, _∙_, ap}
 use native.Mathlib.Omega.{arith}
-use lib.Dec.{leb}
-use borrow.Author.Tests.{lt-leb, leb-true}
+use borrow.Author.Tests.{lt-leb}
 use Rattle.ticket.specs.Kinds.{ticket}
 use Rattle.ticket.specs.Order.{behind, compare, after}
 use Rattle.ticket.specs.declared.kinds.Ticket.{Ticket}
-use Rattle.parts.specs.Parts.{cores, coreNo, unitNo}
-use Rattle.parts.specs.Range.{inRange, perClass}
+use Rattle.parts.specs.Parts.{coreNo, unitNo}
+use Rattle.parts.specs.Range.{inRange}
+use Rattle.parts.specs.declared.kinds.Fill.the-variants.{Blank}
+use Rattle.parts.specs.declared.kinds.Profile.the-variants.{T, D}
 use Rattle.building.specs.Build.{fresh}
 use Rattle.parts.specs.Answer.{numberOf}
 use Rattle.parts.specs.Fold.{upTo}
 use Rattle.plan.specs.Plan.{planStep}
 use Rattle.block.specs.Table.{coreOf}
 use Rattle.refusals.specs.Judge.{noCore, noUnit, old, stretched}
-use Rattle.block.specs.Steps.{onSound, step, performed, verdict}
+use Rattle.block.specs.Steps.{onSound, step, moves, performed, verdict}
 use Rattle.block.specs.Over.{over}
 use Rattle.laws.specs.Shown.{shown}
 use Rattle.parts.specs.declared.kinds.Counts.{Counts}
@@ -27,26 +28,12 @@ use Rattle.parts.specs.declared.answer.Step.{Step}
 use Rattle.parts.specs.declared.answer.Step.the-variants.{R, N, P, I, C, L}
 use Rattle.block.specs.declared.stepped.Stepped.{Stepped}
 use Rattle.refusals.specs.declared.verdict.Verdict.the-variants.{Allowed}
-use Rattle.parts.proofs.Bools.{and-left, and-right}
 use Rattle.parts.proofs.Folds.{none-some}
-use Rattle.parts.proofs.Ranging.{cores-few}
-use Rattle.laws.proofs.Settling.{settle-same}
+use Rattle.parts.proofs.Ranging.{cores-some, cores-few, first-some}
+use Rattle.laws.proofs.Settling.{settle-rest}
 use Rattle.laws.proofs.Granting.{accepted}
 use Rattle.laws.proofs.Keeping.{core-fresh, fresh-sound}
 use Rattle.laws.proofs.Planned.{fine-fresh, shown-planned}
-
--- a good header has a core and a first-class unit
-some-core : (c : Counts) → inRange c ≡ true → (1 ≤ c .cores) × (1 ≤ c .first)
-some-core c e =
-    let a = leb 1 (c .cores) in
-    let b = leb (c .cores) cores in
-    let d = leb 1 (c .first) in
-    let f = leb (c .first) perClass in
-    let g = leb (c .second) perClass in
-    let three = and-left (a && b && d) f (and-left (a && b && d && f) g e) in (
-      leb-true 1 (c .cores) (and-left a b (and-left (a && b) d three)),
-      leb-true 1 (c .first) (and-right (a && b) d three),
-    )
 
 module _ (c : Counts) (n : Ticket) (good : inRange c ≡ true) where
   abbrev t : Table
@@ -63,10 +50,10 @@ module _ (c : Counts) (n : Ticket) (good : inRange c ≡ true) where
   on-fresh s = simp (fresh-sound c n good)
 
   first-core : noCore c (coreNo 0) ≡ false
-  first-core = lt-leb (c .cores) 0 (some-core c good .0)
+  first-core = lt-leb (c .cores) 0 (cores-some c good)
 
   first-unit : noUnit c (unitNo 0) ≡ false
-  first-unit = lt-leb (c .first + c .second) 0 (omega (arith, some-core c good .1))
+  first-unit = lt-leb (c .first + c .second) 0 (omega (arith, first-some c good))
 
   nobody-old : stretched (t .counter) (t .cores) (t .counts .cores) ≡ false
   nobody-old = none-some (λ (k : ℕ). old n (coreOf t k)) (c .cores) (λ k h. simp (core-fresh c n k (omega (arith, cores-few c good))))
@@ -91,11 +78,11 @@ module _ (c : Counts) (n : Ticket) (good : inRange c ≡ true) where
 
   -- the request moves the counter
   pub not-untouched : step t R00 .table .counter ≡ ticket (after (n .0))
-  not-untouched = ap (λ (x : Stepped). x .table .counter) request ∙ settle-same _ .2
+  not-untouched = ap (λ (x : Stepped). x .table .counter) request ∙ settle-rest (moves t R00) .1
 
 -- the run of document 01, every step of it
 abbrev few : Counts
-few = record { cores = 3; first = 1; second = 1 }
+few = record { cores = 3; first = 1; second = 1; profile = T; fill = Blank }
 
 abbrev run : List Step
 run =
@@ -132,3 +119,35 @@ pub not-inventing :
     []
 unfolding behind compare after upTo planStep over
 not-inventing = shown-planned (fresh few (ticket 65535)) run (fine-fresh few (ticket 65535) refl) ∙ refl
+
+-- a run of D: core 1 is away, and dropped when core 0 gives the unit up; coming back it takes a new ticket
+abbrev fewD : Counts
+fewD = record { cores = 3; first = 1; second = 0; profile = D; fill = Blank }
+
+abbrev runD : List Step
+runD =
+    R (coreNo 0) (unitNo 0) ∷
+    P (coreNo 0) ∷
+    R (coreNo 1) (unitNo 0) ∷
+    R (coreNo 2) (unitNo 0) ∷
+    I (coreNo 1) ∷
+    L (coreNo 0) ∷
+    P (coreNo 1) ∷
+    C (coreNo 1) ∷
+    P (coreNo 2) ∷
+    []
+
+pub drops-away :
+    shown (fresh fewD (ticket 65535)) runD ≡
+    (0 ∷ 65535 ∷ 0 ∷ 0 ∷ []) ∷
+    (1 ∷ 65535 ∷ []) ∷
+    (0 ∷ 0 ∷ []) ∷
+    (0 ∷ 1 ∷ []) ∷
+    (0 ∷ 0 ∷ []) ∷
+    (0 ∷ 65535 ∷ 0 ∷ 2 ∷ []) ∷
+    (12 ∷ 0 ∷ []) ∷
+    (0 ∷ 2 ∷ []) ∷
+    (1 ∷ 1 ∷ []) ∷
+    []
+unfolding behind compare after upTo planStep over
+drops-away = shown-planned (fresh fewD (ticket 65535)) runD (fine-fresh fewD (ticket 65535) refl) ∙ refl

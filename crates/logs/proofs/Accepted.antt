@@ -23,11 +23,10 @@ use Rattle.building.specs.Build.{build}
 use Rattle.laws.proofs.Keeping.{built-sound}
 use Rattle.laws.proofs.Claims.{keeps-sound}
 use Rattle.numbers.specs.Number.{numberMost}
-use Rattle.lines.specs.Bytes.{letterT}
 use Rattle.headers.specs.Header.{readHeader}
 use Rattle.headers.specs.declared.reading.HeaderLine.the-variants.{Header}
 use Rattle.expected.proofs.Lengths.{Placed}
-use Rattle.writing.specs.Writing.{numbersOf, headerBytes}
+use Rattle.writing.specs.Writing.{numbersOf, scriptHeader}
 use Rattle.writing.specs.Claims.{Small}
 use Rattle.writing.proofs.ReadsBack.{read-header-written}
 use Rattle.stops.specs.Run.{stepsMost, beginning}
@@ -150,7 +149,7 @@ lines-accepted s (x ∷ xs) t steps place held ok (first, small) few h e =
 
 pub accepted : Accepted
 accepted c n xs good most small few =
-    let line = headerBytes letterT c n in
+    let line = scriptHeader c n in
     let t = build c n .table in
     let log = logOf c n xs in
     let q = known beginning in

@@ -13,6 +13,8 @@ use Rattle.ticket.specs.declared.kinds.Ticket.{Ticket}
 use Rattle.parts.proofs.Bools.{clash}
 use Rattle.parts.specs.declared.answer.Step.{Step}
 use Rattle.parts.specs.declared.kinds.Counts.{Counts}
+use Rattle.parts.specs.declared.kinds.Profile.{Profile}
+use Rattle.parts.specs.declared.kinds.Profile.the-variants.{T, D}
 use Rattle.block.specs.Over.{over}
 use Rattle.block.specs.Sound.{sound}
 use Rattle.block.specs.Steps.{step}
@@ -22,16 +24,16 @@ use Rattle.building.specs.Build.{build}
 use Rattle.numbers.specs.Bytes.{tab, end}
 use Rattle.numbers.specs.Number.{decimal}
 use Rattle.numbers.proofs.Scanning.{AllDigits, digits-all}
-use Rattle.lines.specs.Bytes.{letterT, letterE, letterOf}
+use Rattle.lines.specs.Bytes.{scriptLetter, outputLetter, letterOf}
 use Rattle.lines.specs.Reading.{readStep}
 use Rattle.headers.specs.Header.{readHeader}
 use Rattle.headers.specs.declared.reading.HeaderLine.{HeaderLine}
 use Rattle.headers.specs.declared.reading.HeaderLine.the-variants.{Header, BadHeader as NoHeader, Unfinished as CutHeader}
 use Rattle.expected.specs.Expected.{expectedBytes}
-use Rattle.writing.specs.Writing.{fields, numbersOf, stepBytes, headerBytes}
+use Rattle.writing.specs.Writing.{fields, numbersOf, stepBytes, scriptHeader, outputHeader}
 use Rattle.writing.specs.Claims.{Stands}
 use Rattle.writing.proofs.AsWritten.{step-read-is-written, header-read-is-written}
-use Rattle.writing.proofs.ReadsBack.{Plain, plain-append, plain-tabbed}
+use Rattle.writing.proofs.ReadsBack.{Plain, plain-append, plain-tabbed, letter-plain as header-plain}
 use Rattle.stops.specs.Run.{stepsMost, stopNumber, beginning}
 use Rattle.stops.specs.declared.run.Stop.{Stop}
 use Rattle.stops.specs.declared.run.Stop.the-variants.{Finished}
@@ -221,18 +223,24 @@ ran t n s p left (a ∷ vs) few (e, c) =
 
 -- The whole
 
+-- a letter that opens an output is no line's end
+opens-plain : (p : Profile) → outputLetter p ≡ end → ⊥
+opens-plain T e = omega arith
+opens-plain D e = omega arith
+
 -- the header's lines of the script and of the output come off
 opening-off :
     (n : ℕ) (c : Counts) (k : Ticket) (s o : List ℕ) →
-    ownLog n (headerBytes letterT c k ++ s) (headerBytes letterE c k ++ o) ≡ headerBytes letterT c k ++ beside n s o
+    ownLog n (scriptHeader c k ++ s) (outputHeader c k ++ o) ≡ scriptHeader c k ++ beside n s o
 opening-off n c k s o =
     let ns : List ℕ = c .cores ∷ c .first ∷ c .second ∷ k .0 ∷ [] in
-    let letter : letterT ≡ end → ⊥ = λ e. omega arith in
+    let opens = scriptLetter (c .profile) in
+    let plain = header-plain (c .profile) in
     simp (
-      until-lettered letterT ns s letter,
-      past-lettered letterT ns s letter,
-      past-lettered letterE ns o (λ e. omega arith),
-      line-again letterT ns (beside n s o) letter,
+      until-lettered opens ns s plain,
+      past-lettered opens ns s plain,
+      past-lettered (outputLetter (c .profile)) ns o (opens-plain (c .profile)),
+      line-again opens ns (beside n s o) plain,
     )
 
 -- the log of what is known after the script s, for which o was written, is accepted
@@ -252,10 +260,10 @@ opened s o p a w r =
     let k = header-read-is-written s 0 c n (a .used) (w .read) in
     let count : length xs ≡ 0 + length xs = omega arith in
     let log : ownLog (length xs) s (a .said ++ o) ≡ logOf c n xs =
-    ap (λ (l : List ℕ). ownLog (length xs) l (a .said ++ o)) (line-off s (headerBytes letterT c n) (a .used) (k .0)) ∙
-    ap (λ (z : Reply Known). ownLog (length xs) (headerBytes letterT c n ++ drop (a .used) s) (z .said ++ o)) (w .is) ∙
+    ap (λ (l : List ℕ). ownLog (length xs) l (a .said ++ o)) (line-off s (scriptHeader c n) (a .used) (k .0)) ∙
+    ap (λ (z : Reply Known). ownLog (length xs) (scriptHeader c n ++ drop (a .used) s) (z .said ++ o)) (w .is) ∙
     opening-off (length xs) c n (drop (a .used) s) o ∙
-    ap (λ (l : List ℕ). headerBytes letterT c n ++ l) (r .log)
+    ap (λ (l : List ℕ). scriptHeader c n ++ l) (r .log)
     in
     subst (Takes s (a .said ++ o)) (ap (working (tableAfter t xs)) count ∙ sym (r .then))
     (subst (λ (l : List ℕ). Accepts l (tableAfter t xs) (length xs) (checkCall beginning l)) (sym log)

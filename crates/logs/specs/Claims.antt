@@ -16,8 +16,8 @@ use Rattle.block.specs.declared.table.Table.{Table}
 use Rattle.building.specs.Build.{build}
 use Rattle.numbers.specs.Bytes.{tab, end}
 use Rattle.numbers.specs.Number.{numberMost}
-use Rattle.lines.specs.Bytes.{letterT, letterOf}
-use Rattle.writing.specs.Writing.{fields, numbersOf, headerBytes}
+use Rattle.lines.specs.Bytes.{letterOf}
+use Rattle.writing.specs.Writing.{fields, numbersOf, scriptHeader}
 use Rattle.writing.specs.Claims.{Small}
 use Rattle.stops.specs.Run.{stepsMost, beginning}
 use Rattle.stops.specs.declared.run.Stop.the-variants.{Finished}
@@ -44,7 +44,7 @@ abbrev pub tableAfter : Table → List Step → Table
 tableAfter t xs = lastPlace (λ q x. step q x .table) t xs
 
 abbrev pub logOf : Counts → Ticket → List Step → List ℕ
-logOf c n xs = headerBytes letterT c n ++ stepsLog (build c n .table) xs
+logOf c n xs = scriptHeader c n ++ stepsLog (build c n .table) xs
 
 -- every step's numbers are such that a line can hold
 abbrev pub AllSmall : List Step → Type 0

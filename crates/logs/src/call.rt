@@ -1,6 +1,7 @@
 // One call: lines are read, worked and held to what they show until one stops the run, which then stands at its start.
 use block::Table;
 use block::gathered;
+use block::gives_way;
 use block::nexts_of;
 use block::rows_of;
 use block::unit_with;
@@ -20,6 +21,7 @@ use loglines::quick_part;
 use loglines::step_part;
 use parts::Counts;
 use parts::Step;
+use parts::dequeues;
 use places::core_place;
 use places::other_place;
 use places::unit_place;
@@ -29,8 +31,11 @@ use refusals::is_live;
 use refusals::late_for;
 use refusals::lives_of;
 use refusals::owns_of;
+use settling::Dropping;
+use settling::drop_away;
 use settling::passed_to;
 use settling::repicked;
+use settling::stored;
 use settling::with_flag;
 use stops::Run;
 use stops::STEPS_MOST;
@@ -269,10 +274,17 @@ fn log_lines(run: Run, log: &[u8]) -> Checked
 {
     let mut at = run;
     let mut table = run.table;
+    let counts = table.counts;
+    let profile = counts.profile;
+    let dequeuing = dequeues(profile);
     let mut rows = rows_of(table);
     let mut nexts = nexts_of(table);
     let mut lives = lives_of(table.cores);
     let mut owns = owns_of(table.cores);
+    let mut d = Dropping {
+        unit: unit_with(rows[0], nexts[0]),
+        cores: table.cores,
+    };
     let mut space = [0u8; SHOWN_MOST];
     loop {
         let place = at.place;
@@ -284,9 +296,23 @@ fn log_lines(run: Run, log: &[u8]) -> Checked
                 let c = table.cores[k];
                 let i = unit_place(s, c).0 as usize;
                 let j = other_place(s, c).0 as usize;
-                let x = plan::Part::of(rows[i][k], nexts[i]);
-                let y = plan::Part::of(rows[j][k], nexts[j]);
-                let late = late_for(s, table.counts, table.counter, &lives, &owns);
+                let mut v = nexts[i];
+                let mut z = nexts[j];
+                let mut drops = false;
+                if dequeuing {
+                    let w = passed_to(stored(v), o).0 as usize;
+                    let f = table.cores[w];
+                    drops = gives_way(s, table.counts, c, rows[i][k], f);
+                    if drops {
+                        d = drop_away(table.counts.cores, unit_with(rows[i], v), table.cores);
+                        let u = d.unit;
+                        v = u.next;
+                        z = u.next;
+                    }
+                }
+                let x = plan::Part::of(rows[i][k], v);
+                let y = plan::Part::of(rows[j][k], z);
+                let late = late_for(s, c, table.counts, table.counter, &lives, &owns);
                 let p = plan_step(s, table.counts, table.counter, late, c, x, y);
                 let counter = p.counter;
                 match line_meets(log, place, behind, given_by(p), &mut space) {
@@ -295,6 +321,17 @@ fn log_lines(run: Run, log: &[u8]) -> Checked
                         let a = p.first;
                         let b = p.second;
                         let core = p.core;
+                        if drops {
+                            let u = d.unit;
+                            let row = u.registers;
+                            let shown = u.next;
+                            let all = d.cores;
+                            rows[i] = row;
+                            nexts[i] = shown;
+                            table.cores = all;
+                            lives = lives_of(all);
+                            owns = owns_of(all);
+                        }
                         if p.moves {
                             let q = b.register;
                             let z = b.next;

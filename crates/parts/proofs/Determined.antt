@@ -10,17 +10,23 @@ use Rattle.parts.proofs.made.flagged.Reads as flagged
 use Rattle.parts.proofs.made.empty_unit.Reads as empty-unit
 use Rattle.parts.proofs.made.registered.Reads as registered
 use Rattle.parts.proofs.made.core.Reads as core
+use Rattle.parts.proofs.made.dropped.Reads as dropped
 use Rattle.parts.proofs.answer.whose.Reads as whose
 use Rattle.parts.proofs.state.is_idle.Reads as is-idle
 use Rattle.parts.proofs.state.two_stage.Reads as two-stage
 use Rattle.parts.proofs.state.waits.Reads as waits
 use Rattle.parts.proofs.state.is_away.Reads as is-away
+use Rattle.parts.proofs.state.is_marked.Reads as is-marked
+use Rattle.parts.proofs.state.is_dropped.Reads as is-dropped
+use Rattle.parts.proofs.state.is_live.Reads as is-live
 use Rattle.parts.proofs.state.stands.Reads as stands
 use Rattle.parts.proofs.state.holds.Reads as holds
 use Rattle.parts.proofs.state.holds_one.Reads as holds-one
 use Rattle.parts.proofs.state.holds_both.Reads as holds-both
 use Rattle.parts.proofs.state.holds_first.Reads as holds-first
 use Rattle.parts.proofs.state.unserved.Reads as unserved
+use Rattle.parts.proofs.profile.dequeues.Reads as dequeues
+use Rattle.parts.proofs.profile.suits.Reads as suits
 
 pub number-determined : Determines number.Post
 number-determined κs a x y s t p q = p ∙ sym q
@@ -79,5 +85,23 @@ registered-determined κs a x y s t p q = p ∙ sym q
 pub core-determined : Determines core.Post
 core-determined κs a x y s t p q = p ∙ sym q
 
+pub dropped-determined : Determines dropped.Post
+dropped-determined κs a x y s t p q = p ∙ sym q
+
 pub whose-determined : Determines whose.Post
 whose-determined κs a x y s t p q = p ∙ sym q
+
+pub is-marked-determined : Determines is-marked.Post
+is-marked-determined κs a x y s t p q = p ∙ sym q
+
+pub is-dropped-determined : Determines is-dropped.Post
+is-dropped-determined κs a x y s t p q = p ∙ sym q
+
+pub is-live-determined : Determines is-live.Post
+is-live-determined κs a x y s t p q = p ∙ sym q
+
+pub dequeues-determined : Determines dequeues.Post
+dequeues-determined κs a x y s t p q = p ∙ sym q
+
+pub suits-determined : Determines suits.Post
+suits-determined κs a x y s t p q = p ∙ sym q

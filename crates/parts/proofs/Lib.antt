@@ -5,3 +5,4 @@ pub mod Filling
 pub mod Ranging
 pub mod Determined
 pub mod Along
+pub mod Profiles

@@ -12,7 +12,7 @@ use Rattle.parts.specs.declared.kinds.Next.{Next}
 use Rattle.parts.specs.declared.kinds.LockUnit.{LockUnit}
 use Rattle.parts.specs.declared.kinds.Core.{Core}
 use Rattle.parts.specs.declared.kinds.State.{State}
-use Rattle.parts.specs.declared.kinds.State.the-variants.{Idle}
+use Rattle.parts.specs.declared.kinds.State.the-variants.{Idle, Dropped}
 use Rattle.parts.specs.declared.kinds.Fill.the-variants.{Blank}
 
 -- the greatest number of cores, and of units
@@ -46,6 +46,10 @@ idle = record { own = ticket 0; carried = ticket 0; first = unitNo 0; second = u
 -- a core, by what it carries
 abbrev pub core : Ticket → Ticket → UnitNo → UnitNo → State → Core
 core o n f s z = record { own = o; carried = n; first = f; second = s; state = z; fill = Blank }
+
+-- "dropped: registered nowhere, no ticket, its 0 blank"; it still names its unit
+abbrev pub dropped : Core → Core
+dropped c = core (ticket 0) (ticket 0) (c .first) (unitNo 0) Dropped
 
 -- a next in line, by what it shows; and where nobody is in line and no flag is set
 abbrev pub nextInLine : Ticket → CoreNo → Bool → Bool → Next

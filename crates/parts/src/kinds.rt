@@ -50,8 +50,12 @@ pub enum State {
     WaitingSecond,
     // Holding both.
     HoldingBoth,
-    // Away in a handler; stands nowhere.
+    // Away in a handler; stands nowhere and keeps its ticket. Only in T.
     Away,
+    // Away in a handler, still registered without a flag. Only in D.
+    Marked,
+    // Away in a handler, registered nowhere, its ticket ended; still names its unit. Only in D.
+    Dropped,
 }
 
 // One byte with one value, which makes a size even.
@@ -71,9 +75,20 @@ pub struct Core {
     pub fill: Fill,
 }
 
-// How many cores, first-class units and second-class units a table has.
+// By which rules a block works.
+pub enum Profile {
+    // The two-stage algorithm with inheritance.
+    T,
+    // The dequeueing method.
+    D,
+}
+
+// How many cores, first-class units and second-class units a table has, and its profile: what its header gives and
+// no step changes.
 pub struct Counts {
     pub cores: u16,
     pub first: u16,
     pub second: u16,
+    pub profile: Profile,
+    pub fill: Fill,
 }

@@ -11,7 +11,7 @@ use ticket::Ticket;
 use ticket::UnitNo;
 ghost use mathlib.Core.Path.{_≡_};
 ghost use Prim.Native.Nat.{_<_};
-ghost use Rattle.parts.specs.Parts.{cores, blank, standing, flagged, nextInLine, emptyUnit, registered, showing, idle, core};
+ghost use Rattle.parts.specs.Parts.{cores, blank, standing, flagged, nextInLine, emptyUnit, registered, showing, idle, core, dropped};
 
 // A register that nobody stands in.
 pub fn blank() -> Register
@@ -118,4 +118,12 @@ pub fn core(own: Ticket, carried: Ticket, first: UnitNo, second: UnitNo, state: 
         state,
         fill: Fill::Blank,
     }
+}
+
+// The core c when it is dropped: its ticket has ended, and it still names its unit.
+pub fn dropped(c: Core) -> Core
+    ensures { λ r. ⌜ r ≡ dropped c ⌝ }
+{
+    let first = c.first;
+    core(Ticket(0), Ticket(0), first, UnitNo(0), State::Dropped)
 }

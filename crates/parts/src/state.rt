@@ -1,7 +1,7 @@
-// What a state says of its core: four tests tell the states apart, the others follow from them.
+// What a state says of its core: six tests tell the states apart, the others follow from them.
 use crate::kinds::State;
 ghost use mathlib.Core.Path.{_≡_};
-ghost use Rattle.parts.specs.State.{isIdle, waits, twoStage, isAway, stands, holds, holdsOne, holdsBoth, holdsFirst, unserved};
+ghost use Rattle.parts.specs.State.{isIdle, waits, twoStage, isAway, isMarked, isDropped, isLive, stands, holds, holdsOne, holdsBoth, holdsFirst, unserved};
 
 // No ticket.
 pub fn is_idle(s: State) -> bool
@@ -14,6 +14,8 @@ pub fn is_idle(s: State) -> bool
         State::WaitingSecond => false,
         State::HoldingBoth => false,
         State::Away => false,
+        State::Marked => false,
+        State::Dropped => false,
     }
 }
 
@@ -28,6 +30,8 @@ pub fn waits(s: State) -> bool
         State::WaitingSecond => true,
         State::HoldingBoth => false,
         State::Away => false,
+        State::Marked => false,
+        State::Dropped => false,
     }
 }
 
@@ -42,6 +46,8 @@ pub fn two_stage(s: State) -> bool
         State::WaitingSecond => true,
         State::HoldingBoth => true,
         State::Away => false,
+        State::Marked => false,
+        State::Dropped => false,
     }
 }
 
@@ -56,21 +62,62 @@ pub fn is_away(s: State) -> bool
         State::WaitingSecond => false,
         State::HoldingBoth => false,
         State::Away => true,
+        State::Marked => true,
+        State::Dropped => true,
     }
 }
 
-// Standing at the first unit, waiting or holding.
+// In a handler, and still registered.
+pub fn is_marked(s: State) -> bool
+    ensures { λ r. ⌜ r ≡ isMarked s ⌝ }
+{
+    match s {
+        State::Idle => false,
+        State::Waiting => false,
+        State::Holding => false,
+        State::WaitingSecond => false,
+        State::HoldingBoth => false,
+        State::Away => false,
+        State::Marked => true,
+        State::Dropped => false,
+    }
+}
+
+// In a handler, and its ticket ended.
+pub fn is_dropped(s: State) -> bool
+    ensures { λ r. ⌜ r ≡ isDropped s ⌝ }
+{
+    match s {
+        State::Idle => false,
+        State::Waiting => false,
+        State::Holding => false,
+        State::WaitingSecond => false,
+        State::HoldingBoth => false,
+        State::Away => false,
+        State::Marked => false,
+        State::Dropped => true,
+    }
+}
+
+// Its ticket is live.
+pub fn is_live(s: State) -> bool
+    ensures { λ r. ⌜ r ≡ isLive s ⌝ }
+{
+    !is_idle(s) & !is_dropped(s)
+}
+
+// Registered at the first unit: waiting, holding, or marked away.
 pub fn stands(s: State) -> bool
     ensures { λ r. ⌜ r ≡ stands s ⌝ }
 {
-    !is_idle(s) & !is_away(s)
+    !is_idle(s) & (!is_away(s) | is_marked(s))
 }
 
 // Holding one or both, and not waiting.
 pub fn holds(s: State) -> bool
     ensures { λ r. ⌜ r ≡ holds s ⌝ }
 {
-    stands(s) & !waits(s)
+    !is_idle(s) & !is_away(s) & !waits(s)
 }
 
 // Holding one unit and not waiting.

@@ -1,7 +1,7 @@
 -- A plan, from what its calls give: the verdict decides, and then what the core does. Whoever a plan grants is one of the table's.
 use Prim.Native.Nat.{_<_}
 use mathlib.Core.Bool.{Bool, true, false, cond}
-use mathlib.Core.List.{_++_}
+use mathlib.Core.List.{List, _++_}
 use mathlib.Core.Path.{_≡_, sym, _∙_, ap}
 use Rattle.ticket.specs.Kinds.{ticket}
 use Rattle.ticket.specs.Order.{compare}
@@ -37,7 +37,7 @@ use Rattle.effects.specs.Effect.{stepEffect}
 use Rattle.effects.specs.declared.kinds.Move.{Move}
 use Rattle.effects.specs.declared.kinds.Move.the-variants.{Stay, Enter, Carry, GiveUp}
 use Rattle.effects.specs.declared.kinds.Effect.{Effect}
-use Rattle.plan.specs.Plan.{staying, refuse, withChanges, entered, leaves, givenUp, carried, carryOut, decided, planStep}
+use Rattle.plan.specs.Plan.{staying, refuse, withChanges, entered, leaves, givenUp, carried, carryOut, decided, effectOf, planStep}
 use Rattle.plan.specs.declared.planning.Part.{Part}
 use Rattle.plan.specs.declared.planning.Plan.{Plan}
 
@@ -98,27 +98,34 @@ module _ (e : Effect) (k : CoreNo) (c : Core) (x y : Part) (p : Plan) where
   pub gives-up : e .does ≡ GiveUp → p ≡ givenUp e k c x y → p ≡ carryOut e k c x y
   gives-up = by-move GiveUp
 
+-- what the step reads of the units, as it was read
+pub reads :
+    (s : Step) (n : Counts) (m : Ticket) (c : Core) (x y : Part) (b : Best) (e : Effect) →
+    b ≡ stored (x .next) →
+    e ≡ stepEffect (n .profile) s m c (y .register .flag) b →
+    e ≡ effectOf s n m c x y
+reads s n m c x y b e eb ee = ee ∙ ap (stepEffect (n .profile) s m c (y .register .flag)) eb
+
 -- the verdict decides
 module _
     (s : Step) (n : Counts) (m : Ticket) (late : Bool) (c : Core) (x y : Part) (v : Verdict) (p : Plan) (says : v ≡ judge s n late c)
   where
     abbrev by : Verdict → Plan
-    by z = decided z m c x y (carryOut (stepEffect s m c (y .register .flag) (stored (x .next))) (corePlace s) c x y)
+    by z = decided z m c x y (carryOut (effectOf s n m c x y) (corePlace s) c x y)
 
     pub refuses : (a : Answer) → v ≡ Refused a → p ≡ refuse a m c x y → p ≡ planStep s n m late c x y
     unfolding planStep
     refuses a told is = is ∙ ap by (sym told ∙ says)
 
     pub allows :
-        (k : CoreNo) (b : Best) (e : Effect) →
+        (k : CoreNo) (e : Effect) →
         v ≡ Allowed →
         k ≡ corePlace s →
-        b ≡ stored (x .next) →
-        e ≡ stepEffect s m c (y .register .flag) b →
+        e ≡ effectOf s n m c x y →
         p ≡ carryOut e k c x y →
         p ≡ planStep s n m late c x y
     unfolding planStep
-    allows k b e told at eb ee is = is ∙ rw (ee, eb, at) (ap by (sym told ∙ says))
+    allows k e told at ee is = is ∙ rw (ee, at) (ap by (sym told ∙ says))
 
 -- Whoever wins a unit is one of the table's
 
@@ -180,15 +187,15 @@ winners-within s n m late c x y = go (judge s n late c)
   where
     go :
         (v : Verdict) →
-        let p = decided v m c x y (carryOut (stepEffect s m c (y .register .flag) (stored (x .next))) (corePlace s) c x y) in Within (p .first .winner) × Within (p .second .winner)
+        let p = decided v m c x y (carryOut (effectOf s n m c x y) (corePlace s) c x y) in Within (p .first .winner) × Within (p .second .winner)
     go Allowed =
-        let e = stepEffect s m c (y .register .flag) (stored (x .next)) in carried-within (corePlace s) (core-place-within s) (e .does) e c x y
+        let e = effectOf s n m c x y in carried-within (corePlace s) (core-place-within s) (e .does) e c x y
     go (Refused a) = (tt, tt)
 
 -- a plan that does not ask whether a live ticket is stretched is the same either way
 pub plan-asked :
-    (s : Step) (n : Counts) (m : Ticket) (late : Bool) (c : Core) (x y : Part) → planStep s n m (asked s late) c x y ≡ planStep s n m late c x y
+    (s : Step) (n : Counts) (m : Ticket) (late : Bool) (c : Core) (x y : Part) → planStep s n m (asked s c late) c x y ≡ planStep s n m late c x y
 unfolding planStep
 plan-asked s n m late c x y =
-    let e = stepEffect s m c (y .register .flag) (stored (x .next)) in
+    let e = effectOf s n m c x y in
     ap (λ (v : Verdict). decided v m c x y (carryOut e (corePlace s) c x y)) (judge-asked s n late c)

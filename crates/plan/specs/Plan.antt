@@ -103,7 +103,11 @@ abbrev pub decided : Verdict → Ticket → Core → Part → Part → Plan → 
 decided Allowed m c x y p = p
 decided (Refused a) m c x y p = refuse a m c x y
 
--- the step: n are the counts, m the counter, late whether a live ticket is stretched, c the core that it names
+-- the effect of an allowed step: the flag that its core waits for is that of y, the next in line at its first unit that of x
+abbrev pub effectOf : Step → Counts → Ticket → Core → Part → Part → Effect
+effectOf s n m c x y = stepEffect (n .profile) s m c (y .register .flag) (stored (x .next))
+
+-- the step: n are the counts, with the profile, m the counter, late whether a live ticket is stretched, c the core that it names
 unfoldable pub planStep : Step → Counts → Ticket → Bool → Core → Part → Part → Plan
 planStep s n m late c x y =
-    decided (judge s n late c) m c x y (carryOut (stepEffect s m c (y .register .flag) (stored (x .next))) (corePlace s) c x y)
+    decided (judge s n late c) m c x y (carryOut (effectOf s n m c x y) (corePlace s) c x y)

@@ -28,7 +28,7 @@ use ticket::UnitNo;
 ghost use mathlib.Core.Path.{_≡_};
 ghost use mathlib.Core.Bool.{true, false};
 ghost use Rattle.settling.specs.Settle.{enter, leave};
-ghost use Rattle.plan.specs.Plan.{part, staying, refuse, withChanges, entered, leaves, givenUp, carryOut, planStep};
+ghost use Rattle.plan.specs.Plan.{part, staying, refuse, withChanges, entered, leaves, givenUp, carryOut, effectOf, planStep};
 
 // What a step reads of a unit at one of its places: the register of its core, and what the unit shows.
 pub struct Part {
@@ -154,6 +154,16 @@ fn carry_out(e: Effect, k: CoreNo, c: Core, x: Part, y: Part) -> Plan
     }
 }
 
+// The effect of an allowed step of the core c, which reads x and y of the units at its places.
+fn effect_of(s: Step, counts: Counts, counter: Ticket, c: Core, x: Part, y: Part) -> Effect
+    ensures { λ e. ⌜ e ≡ effectOf s counts counter c x y ⌝ }
+{
+    let p = counts.profile;
+    let r = y.register;
+    let line = x.next;
+    step_effect(p, s, counter, c, r.flag, stored(line))
+}
+
 // Seam: the plan of a step that names core c and reads x and y of the units at its places.
 pub fn plan_step(
     s: Step,
@@ -170,9 +180,7 @@ pub fn plan_step(
         Verdict::Refused(a) => refuse(a, counter, c, x, y),
         Verdict::Allowed => {
             let k = core_place(s);
-            let r = y.register;
-            let v = x.next;
-            let e = step_effect(s, counter, c, r.flag, stored(v));
+            let e = effect_of(s, counts, counter, c, x, y);
             carry_out(e, k, c, x, y)
         }
     }

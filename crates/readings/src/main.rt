@@ -2,11 +2,12 @@
 //
 // A case is a letter, a length byte, and so many bytes: S, a script after its header; H, a script before
 // it; W, a register word, lowest byte first. The cases and the stored answers are what
-// second/readings.py makes, from document 01 alone.
+// second/readings.py makes, from documents 01 and 02 alone.
 use headers::HeaderLine;
 use libc::STDOUT_FILENO;
 use lines::StepLine;
 use parts::Counts;
+use parts::Profile;
 use parts::Register;
 use parts::Step;
 use ticket::CoreNo;
@@ -110,7 +111,11 @@ fn header(s: &[u8]) {
 }
 
 fn header_line(c: Counts, n: Ticket, next: usize) {
-    say(b"T");
+    let p = c.profile;
+    match p {
+        Profile::T => say(b"T"),
+        Profile::D => say(b"D"),
+    }
     field(c.cores as u64);
     field(c.first as u64);
     field(c.second as u64);

@@ -1,21 +1,20 @@
 -- The cores' tickets apart: they are the cores' one by one, also after a core has changed; and of them 15 asks what it asks of the cores.
 use Prim.Native.Nat.{ℕ, zero, suc}
-use mathlib.Core.Bool.{Bool, false, _&&_}
+use mathlib.Core.Bool.{Bool, true, false, _&&_}
 use mathlib.Core.List.{List, [], _∷_, map}
 use mathlib.Core.Path.{_≡_, refl, sym, _∙_, ap, ap₂}
 use lib.ListN.{length, getD, set, length-map, List·getD-map}
 use Rattle.ticket.specs.Order.{compare}
-use Rattle.ticket.specs.declared.kinds.CoreNo.{CoreNo}
 use Rattle.ticket.specs.declared.kinds.Ticket.{Ticket}
-use Rattle.ticket.specs.declared.kinds.UnitNo.{UnitNo}
 use Rattle.parts.specs.Fold.{some, upTo}
 use Rattle.parts.specs.Parts.{cores, idle}
+use Rattle.parts.specs.State.{isDropped}
 use Rattle.parts.specs.declared.kinds.Core.{Core}
 use Rattle.parts.specs.declared.kinds.Counts.{Counts}
 use Rattle.parts.specs.declared.answer.Step.{Step}
 use Rattle.parts.specs.declared.answer.Step.the-variants.{R, N, P, I, C, L}
 use Rattle.refusals.specs.Judge.{far, live, old, stretched, judge}
-use Rattle.refusals.specs.Tickets.{ownIn, livesOf, ownsOf, oldAt, stretchedBy, asked}
+use Rattle.refusals.specs.Tickets.{ownIn, livesOf, ownsOf, oldAt, stretchedBy, asks, asked}
 
 pub live-at : (cs : List Core) (k : ℕ) → live (getD cs k idle) ≡ getD (livesOf cs) k false
 live-at cs k = sym (List·getD-map live cs k idle)
@@ -53,14 +52,22 @@ some-alike p q e (suc n) = rw (some-alike p q e n, e n)
 pub stretched-apart : (m : Ticket) (cs : List Core) (n : ℕ) → stretchedBy m (livesOf cs) (ownsOf cs) n ≡ stretched m cs n
 stretched-apart m cs n = some-alike (oldAt m (livesOf cs) (ownsOf cs)) (λ (k : ℕ). old m (getD cs k idle)) (old-apart m cs) n
 
+asked-once : (b late : Bool) → (b && (b && late)) ≡ (b && late)
+asked-once true late = refl
+asked-once false late = refl
+
 -- a verdict that does not ask whether a live ticket is stretched is the same either way
-pub judge-asked : (s : Step) (n : Counts) (late : Bool) (c : Core) → judge s n (asked s late) c ≡ judge s n late c
+pub judge-asked : (s : Step) (n : Counts) (late : Bool) (c : Core) → judge s n (asked s c late) c ≡ judge s n late c
 judge-asked (R k u) n late c = refl
 judge-asked (N k u) n late c = refl
 judge-asked (P k) n late c = refl
 judge-asked (I k) n late c = refl
-judge-asked (C k) n late c = refl
+judge-asked (C k) n late c = rw (asked-once (isDropped (c .state)) late)
 judge-asked (L k) n late c = refl
 
-pub requests : (s : Step) (k : CoreNo) (u : UnitNo) (late r : Bool) → s ≡ R k u → r ≡ late → r ≡ asked s late
-requests s k u late r e is = is ∙ ap (λ (z : Step). asked z late) (sym e)
+module _ (s : Step) (c : Core) (b late : Bool) (says : b ≡ asks s c) where
+  pub asks-none : b ≡ false → false ≡ asked s c late
+  asks-none e = rw (sym says ∙ e)
+
+  pub asks-all : (r : Bool) → b ≡ true → r ≡ late → r ≡ asked s c late
+  asks-all r e is = rw (sym says ∙ e) is

@@ -1,7 +1,7 @@
 -- "Order for a step: 16, 10, 11, then 12 or 14, then 13, 15. Each is given exactly when its condition holds and no earlier one does."
--- A verdict depends on the counts, on the state of the core that the step names, for N on the unit that it holds and for R on whether a live
--- ticket is stretched, which the counter and the cores up to the count tell. Past the count a sound table has idle cores alone, whose tickets are
--- not live.
+-- A verdict depends on the counts, on the state of the core that the step names, for N on the unit that it holds, and for R and C of a dropped core
+-- on whether a live ticket is stretched, which the counter and the cores up to the count tell. Past the count a sound table has idle cores alone,
+-- whose tickets are not live.
 use Prim.Native.Nat.{ℕ, _+_}
 use mathlib.Core.Bool.{Bool, true, false, cond, _&&_, _||_, not}
 use mathlib.Core.List.{List}
@@ -14,7 +14,7 @@ use Rattle.ticket.specs.declared.kinds.UnitNo.{UnitNo}
 use Rattle.ticket.specs.declared.order.Comparison.{Comparison}
 use Rattle.ticket.specs.declared.order.Comparison.the-variants.{Older, Younger, Same, Opposite}
 use Rattle.parts.specs.Fold.{some}
-use Rattle.parts.specs.State.{isIdle, waits, holds, holdsOne, isAway}
+use Rattle.parts.specs.State.{isIdle, isLive, waits, holds, holdsOne, isAway, isDropped}
 use Rattle.parts.specs.Parts.{idle}
 use Rattle.parts.specs.declared.kinds.Core.{Core}
 use Rattle.parts.specs.declared.kinds.Counts.{Counts}
@@ -46,11 +46,10 @@ wrongClass n held u = ltb (u .0) (n .first) || leb (n .first) (held .0)
 abbrev pub far : Comparison → Bool
 far x = elim x [ Older ↦ false | Younger ↦ true | Same ↦ false | Opposite ↦ true ]
 
--- "A ticket is live from its request to its release, also while its core is away."
-abbrev pub live : Core → Bool
-live c = not (isIdle (c .state))
-
 -- 15: "some live ticket lies 32,768 or more behind the counter"
+abbrev pub live : Core → Bool
+live c = isLive (c .state)
+
 abbrev pub old : Ticket → Core → Bool
 old m c = live c && far (compare (c .own .0) (m .0))
 
@@ -67,12 +66,17 @@ mayRequest n late k s u = known n k u (unless (not (isIdle s)) WrongState (unles
 abbrev pub mayNest : Counts → CoreNo → State → UnitNo → UnitNo → Verdict
 mayNest n k s held u = known n k u (unless (not (holdsOne s)) WrongState (unless (wrongClass n held u) WrongClass Allowed))
 
--- P, C and L, with whether the state is the right one
+-- P and L, with whether the state is the right one
 abbrev pub inState : Counts → CoreNo → Bool → Verdict
 inState n k right = unless (noCore n k) NoCore (unless (not right) WrongState Allowed)
 
 abbrev pub mayInterrupt : Counts → CoreNo → State → Verdict
 mayInterrupt n k s = unless (noCore n k) NoCore (unless (holds s) Masked (unless (not (waits s)) WrongState Allowed))
+
+-- "C of a dropped core can give 15, after 12": it takes a new ticket, on R's condition
+abbrev pub mayComeBack : Counts → Bool → CoreNo → State → Verdict
+mayComeBack n late k s =
+    unless (noCore n k) NoCore (unless (not (isAway s)) WrongState (unless (isDropped s && late) Stretched Allowed))
 
 -- the step: n are the counts, late whether a live ticket is stretched, c the core that it names
 abbrev pub judge : Step → Counts → Bool → Core → Verdict
@@ -80,5 +84,5 @@ judge (R k u) n late c = mayRequest n late k (c .state) u
 judge (N k u) n late c = mayNest n k (c .state) (c .first) u
 judge (P k) n late c = inState n k (waits (c .state))
 judge (I k) n late c = mayInterrupt n k (c .state)
-judge (C k) n late c = inState n k (isAway (c .state))
+judge (C k) n late c = mayComeBack n late k (c .state)
 judge (L k) n late c = inState n k (holds (c .state))

@@ -1,11 +1,12 @@
 -- Detail: the cores' tickets apart, as a run holds them: which are live, and the own ticket of each core. 15 is asked of these.
 use Prim.Native.Nat.{ℕ}
-use mathlib.Core.Bool.{Bool, false, _&&_}
+use mathlib.Core.Bool.{Bool, true, false, _&&_}
 use mathlib.Core.List.{List, map}
 use lib.ListN.{getD}
 use Rattle.ticket.specs.Order.{compare}
 use Rattle.ticket.specs.declared.kinds.Ticket.{Ticket}
 use Rattle.parts.specs.Fold.{some}
+use Rattle.parts.specs.State.{isDropped}
 use Rattle.parts.specs.declared.kinds.Core.{Core}
 use Rattle.parts.specs.declared.answer.Step.{Step}
 use Rattle.parts.specs.declared.answer.Step.the-variants.{R, N, P, I, C, L}
@@ -26,6 +27,10 @@ oldAt m ls os k = getD ls k false && far (compare (getD os k 0) (m .0))
 abbrev pub stretchedBy : Ticket → List Bool → List ℕ → ℕ → Bool
 stretchedBy m ls os n = some (oldAt m ls os) n
 
--- what a step's verdict asks: R alone whether a live ticket is stretched
-abbrev pub asked : Step → Bool → Bool
-asked s late = elim s [ R k u ↦ late | N k u ↦ false | P k ↦ false | I k ↦ false | C k ↦ false | L k ↦ false ]
+-- the step takes a ticket, so that its verdict asks whether a live one is stretched: R, and C of a dropped core; c is the core that it names
+abbrev pub asks : Step → Core → Bool
+asks s c = elim s [ R k u ↦ true | N k u ↦ false | P k ↦ false | I k ↦ false | C k ↦ isDropped (c .state) | L k ↦ false ]
+
+-- what a step's verdict asks
+abbrev pub asked : Step → Core → Bool → Bool
+asked s c late = asks s c && late

@@ -4,7 +4,7 @@ use parts::CORES;
 use parts::Core;
 use parts::Counts;
 use parts::Step;
-use parts::is_idle;
+use parts::is_dropped;
 use ticket::Comparison;
 use ticket::Ticket;
 use ticket::compare;
@@ -12,14 +12,14 @@ ghost use mathlib.Core.Path.{_≡_};
 ghost use Prim.Native.Nat.{_≤_};
 ghost use lib.ListN.{length};
 ghost use Rattle.refusals.specs.Judge.{far, live};
-ghost use Rattle.refusals.specs.Tickets.{livesOf, ownsOf, stretchedBy, asked};
+ghost use Rattle.refusals.specs.Tickets.{livesOf, ownsOf, stretchedBy, asks, asked};
 
 // Seam: whether the core's ticket is live.
 pub fn is_live(c: Core) -> bool
     ensures { λ r. ⌜ r ≡ live c ⌝ }
 {
     let s = c.state;
-    !is_idle(s)
+    parts::is_live(s)
 }
 
 // Seam: which cores' tickets are live.
@@ -67,37 +67,53 @@ fn far(x: Comparison) -> bool
     }
 }
 
-// 15: of the first n cores some ticket is live and lies half the circle or more behind the counter.
+// 15: of the first n cores some ticket is live and lies half the circle or more behind the counter. All are looked at, without a branch, so
+// that the processor takes several at a time.
 fn stretched(n: usize, counter: Ticket, lives: &[bool], owns: &[u16]) -> bool
     requires { ⌜ (n ≤ length (now lives)) × (n ≤ length (now owns)) ⌝ }
     ensures { λ r. ⌜ r ≡ stretchedBy counter (now (lives .entry)) (now (owns .entry)) n ⌝ }
 {
+    let mut any = false;
     let mut k = 0;
     while k < n {
         let live = lives[k];
         let own = owns[k];
-        if live & far(compare(Ticket(own), counter)) {
-            return true;
-        }
+        any = any | (live & far(compare(Ticket(own), counter)));
         k += 1;
     }
-    false
+    any
 }
 
-// Seam: the same of the cores that are counted, for a step whose verdict asks it. The cores past the count are not looked at.
-pub fn late_for(s: Step, counts: Counts, counter: Ticket, lives: &[bool], owns: &[u16]) -> bool
-    requires { ⌜ (counts .cores ≤ length (now lives)) × (counts .cores ≤ length (now owns)) ⌝ }
-    ensures { λ r. ⌜ r ≡ asked s (stretchedBy counter (now (lives .entry)) (now (owns .entry)) (counts .cores)) ⌝ }
+// Whether a step of the core c takes a ticket.
+fn asks(s: Step, c: Core) -> bool
+    ensures { λ r. ⌜ r ≡ asks s c ⌝ }
 {
+    let z = c.state;
     match s {
-        Step::R(_, _) => {
-            let n = counts.cores as usize;
-            stretched(n, counter, lives, owns)
-        }
+        Step::R(_, _) => true,
         Step::N(_, _) => false,
         Step::P(_) => false,
         Step::I(_) => false,
-        Step::C(_) => false,
+        Step::C(_) => is_dropped(z),
         Step::L(_) => false,
     }
+}
+
+// Seam: 15 of the cores that are counted, for a step of the core c whose verdict asks it. The cores past the count are not looked at.
+pub fn late_for(
+    s: Step,
+    c: Core,
+    counts: Counts,
+    counter: Ticket,
+    lives: &[bool],
+    owns: &[u16],
+) -> bool
+    requires { ⌜ (counts .cores ≤ length (now lives)) × (counts .cores ≤ length (now owns)) ⌝ }
+    ensures { λ r. ⌜ r ≡ asked s c (stretchedBy counter (now (lives .entry)) (now (owns .entry)) (counts .cores)) ⌝ }
+{
+    if asks(s, c) {
+        let n = counts.cores as usize;
+        return stretched(n, counter, lives, owns);
+    }
+    false
 }

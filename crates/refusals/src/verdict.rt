@@ -1,5 +1,5 @@
 // Which steps are allowed: the refusals 10 to 15, in their order. They are judged by the counts and by the
-// core that the step names, and R by whether a live ticket is stretched.
+// core that the step names, and R and C also by whether a live ticket is stretched.
 use parts::Answer;
 use parts::Core;
 use parts::Counts;
@@ -8,12 +8,13 @@ use parts::Step;
 use parts::holds;
 use parts::holds_one;
 use parts::is_away;
+use parts::is_dropped;
 use parts::is_idle;
 use parts::waits;
 use ticket::CoreNo;
 use ticket::UnitNo;
 ghost use mathlib.Core.Path.{_≡_};
-ghost use Rattle.refusals.specs.Judge.{noCore, noUnit, wrongClass, mayRequest, mayNest, mayInterrupt, inState, judge};
+ghost use Rattle.refusals.specs.Judge.{noCore, noUnit, wrongClass, mayRequest, mayNest, mayInterrupt, mayComeBack, inState, judge};
 
 pub enum Verdict {
     Allowed,
@@ -93,7 +94,7 @@ fn may_interrupt(counts: Counts, k: CoreNo, s: State) -> Verdict
     Verdict::Allowed
 }
 
-// P, C and L: whether the core's state is the right one.
+// P and L: whether the core's state is the right one.
 fn in_state(counts: Counts, k: CoreNo, right: bool) -> Verdict
     ensures { λ r. ⌜ r ≡ inState counts k right ⌝ }
 {
@@ -102,6 +103,22 @@ fn in_state(counts: Counts, k: CoreNo, right: bool) -> Verdict
     }
     if !right {
         return Verdict::Refused(Answer::WrongState);
+    }
+    Verdict::Allowed
+}
+
+// A dropped core takes a new ticket when it comes back, as a request does.
+fn may_come_back(counts: Counts, late: bool, k: CoreNo, s: State) -> Verdict
+    ensures { λ r. ⌜ r ≡ mayComeBack counts late k s ⌝ }
+{
+    if no_core(counts, k) {
+        return Verdict::Refused(Answer::NoCore);
+    }
+    if !is_away(s) {
+        return Verdict::Refused(Answer::WrongState);
+    }
+    if is_dropped(s) & late {
+        return Verdict::Refused(Answer::Stretched);
     }
     Verdict::Allowed
 }
@@ -117,7 +134,7 @@ pub fn judge(s: Step, counts: Counts, late: bool, c: Core) -> Verdict
         Step::N(k, u) => may_nest(counts, k, z, held, u),
         Step::P(k) => in_state(counts, k, waits(z)),
         Step::I(k) => may_interrupt(counts, k, z),
-        Step::C(k) => in_state(counts, k, is_away(z)),
+        Step::C(k) => may_come_back(counts, late, k, z),
         Step::L(k) => in_state(counts, k, holds(z)),
     }
 }

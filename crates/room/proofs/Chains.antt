@@ -16,7 +16,7 @@ use Rattle.parts.specs.declared.answer.Step.{Step}
 use Rattle.parts.specs.declared.kinds.Counts.{Counts}
 use Rattle.building.specs.Build.{build}
 use Rattle.numbers.specs.Number.{numberMost}
-use Rattle.lines.specs.Bytes.{lineMost, letterE}
+use Rattle.lines.specs.Bytes.{lineMost, outputLetter}
 use Rattle.lines.specs.Reading.{readStep}
 use Rattle.lines.specs.declared.reading.StepLine.{StepLine}
 use Rattle.lines.specs.declared.reading.StepLine.the-variants.{Line, Finished, Malformed, Unfinished}
@@ -26,7 +26,7 @@ use Rattle.headers.specs.declared.reading.HeaderLine.the-variants.{Header}
 use Rattle.digits.specs.Text.{pasted}
 use Rattle.digits.specs.Room.{fits}
 use Rattle.expected.specs.Expected.{expectedMost, expectedBytes}
-use Rattle.writing.specs.Writing.{headerBytes}
+use Rattle.writing.specs.Writing.{outputHeader}
 use Rattle.writing.proofs.AsWritten.{header-read-is-written}
 use Rattle.writing.proofs.Lengths.{header-most}
 use Rattle.stops.specs.Run.{stepsMost, beginning}
@@ -151,7 +151,7 @@ fewer a k h l = go (ltb a stepsMost)
 
 module _ (s out : List ℕ) (c : Counts) (n : Ticket) (next : ℕ) (read : readHeader s 0 ≡ Header c n next) where
   abbrev pub first : List ℕ
-  first = headerBytes letterE c n
+  first = outputHeader c n
 
   ranged : inRange c ≡ true
   ranged = header-read-is-written s 0 c n next read .1
@@ -160,7 +160,7 @@ module _ (s out : List ℕ) (c : Counts) (n : Ticket) (next : ℕ) (read : readH
   small = header-read-is-written s 0 c n next read .2
 
   first-most : length first ≤ lineMost
-  first-most = header-most letterE c n ranged small
+  first-most = header-most (outputLetter (c .profile)) c n ranged small
 
   -- the run after the header's line, and its output
   abbrev pub opened : Run
@@ -211,5 +211,5 @@ module _ (s out : List ℕ) (c : Counts) (n : Ticket) (next : ℕ) (read : readH
 
 pub room-whole : RoomWhole
 room-whole s out c n next read =
-    let w = by-room s out c n next read (fits out 0 (headerBytes letterE c n)) refl in
+    let w = by-room s out c n next read (fits out 0 (outputHeader c n)) refl in
     (omega (arith, w .0), λ room. w .1 (omega arith))

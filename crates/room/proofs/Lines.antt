@@ -3,8 +3,8 @@
 use Prim.Native.Nat.{ℕ, zero, suc, _≤_, _<_}
 use mathlib.Core.Bool.{Bool, true, false, cond, _&&_}
 use mathlib.Core.List.{List·Memᴰ, List·Memᴰ·head, List·Memᴰ·tail}
-use mathlib.Core.Logic.{_⊎_, inl, inr, _≢_}
-use mathlib.Core.Path.{_≡_, refl, sym, ap, subst}
+use mathlib.Core.Logic.{_⊎_, inl, inr, ⊎-elim, _≢_}
+use mathlib.Core.Path.{_≡_, refl, sym, _∙_, ap, subst}
 use native.Mathlib.Omega.{arith}
 use lib.Dec.{leb}
 use lib.ListN.{length, getD, replicate}
@@ -14,8 +14,8 @@ use Rattle.ticket.specs.Order.{circle, compare, after}
 use Rattle.ticket.specs.declared.kinds.Grant.{Grant}
 use Rattle.ticket.specs.declared.kinds.Ticket.{Ticket}
 use Rattle.parts.specs.Answer.{numberOf, whose}
-use Rattle.parts.specs.Parts.{cores, units, idle}
-use Rattle.parts.specs.Range.{inRange, perClass}
+use Rattle.parts.specs.Parts.{cores, units, idle, dropped}
+use Rattle.parts.specs.Range.{inRange}
 use Rattle.parts.specs.State.{twoStage}
 use Rattle.parts.specs.declared.answer.Answer.{Answer}
 use Rattle.parts.specs.declared.answer.Answer.the-variants.{Done, OutOfRange}
@@ -25,35 +25,43 @@ use Rattle.parts.specs.declared.answer.Step.{Step}
 use Rattle.parts.specs.declared.answer.Step.the-variants.{R, N, P, I, C, L}
 use Rattle.parts.specs.declared.kinds.Core.{Core}
 use Rattle.parts.specs.declared.kinds.Counts.{Counts}
+use Rattle.parts.specs.declared.kinds.Profile.{Profile}
+use Rattle.parts.specs.declared.kinds.Profile.the-variants.{T, D}
 use Rattle.parts.specs.declared.kinds.Register.{Register}
 use Rattle.settling.specs.Line.{next}
 use Rattle.settling.specs.declared.line.Best.{Best}
 use Rattle.settling.specs.declared.line.Best.the-variants.{Nobody, Won}
 use Rattle.refusals.specs.declared.verdict.Verdict.{Verdict}
 use Rattle.refusals.specs.declared.verdict.Verdict.the-variants.{Allowed, Refused}
-use Rattle.effects.specs.Effect.{heritable, heir}
+use Rattle.effects.specs.Effect.{interrupt, heritable, heir}
 use Rattle.effects.specs.declared.kinds.Effect.{Effect}
 use Rattle.block.specs.Settle.{settle}
+use Rattle.block.specs.Skipping.{skipped}
 use Rattle.block.specs.Sound.{sound}
-use Rattle.block.specs.Steps.{verdict, effectOn, moves, performed, refusal, onSound, step}
+use Rattle.block.specs.Steps.{verdict, awaited, effectOn, moves, performed, refusal, onSound, step}
 use Rattle.block.specs.Table.{coreOf, unitOf, registerOf}
 use Rattle.block.specs.declared.stepped.Stepped.{Stepped}
 use Rattle.block.specs.declared.table.Table.{Table}
-use Rattle.building.specs.Build.{fresh, build}
+use Rattle.building.specs.Build.{fresh, least, build}
 use Rattle.building.specs.declared.building.Built.{Built}
 use Rattle.laws.specs.Granting.{listed}
 use Rattle.expected.specs.Expected.{expectedMost, expectedBytes}
 use Rattle.room.specs.Claims.{Held, LineMost}
 use Rattle.parts.proofs.Along.{same-or-not}
-use Rattle.parts.proofs.Bools.{and-left, and-right}
+use Rattle.parts.proofs.Ranging.{first-few}
 use Rattle.settling.proofs.Picking.{next-won}
+use Rattle.block.proofs.Allows.{may-come-back}
 use Rattle.block.proofs.Answering.{poll-in}
+use Rattle.block.proofs.DroppedFirst.{skip-first, skipped-shaped, skipped-sound, skipped-present}
+use Rattle.block.proofs.DropsKept.{skipped-same, skipped-core}
 use Rattle.block.proofs.Parts.{parts}
 use Rattle.block.proofs.Standing.{first-in}
-use Rattle.block.proofs.Stepping.{inherited, poll-cases}
+use Rattle.block.proofs.Suited.{live-busy}
+use Rattle.block.proofs.Stepping.{inherited, poll-cases, come-cases}
 use Rattle.block.proofs.Agreeing.{agreeing}
+use Rattle.block.proofs.Touched.{AllPresent}
 use Rattle.laws.proofs.Claims.{on-sound}
-use Rattle.laws.proofs.Granting.{accepted, refused, grants-exactly, two-classes}
+use Rattle.laws.proofs.Granting.{accepted, refused, granted-placed, two-classes}
 use Rattle.laws.proofs.Keeping.{fresh-shaped}
 use Rattle.block.proofs.Kept.{two-stage, moves-shaped, moves-moved}
 use Rattle.laws.proofs.Settling.{settle-shaped, settle-same}
@@ -101,7 +109,7 @@ module _ (t : Table) (held : Held t) (ok : sound t ≡ true) where
       go Nobody e = held .own k
       go (Won j m) e =
           let w = next-won cores (unitOf t u) j m e in
-          let place = first-in t (parts t ok) k l (two-stage (coreOf t k .state) two .live) in
+          let place = first-in t (parts t ok) k l (live-busy (coreOf t k .state) (two-stage (coreOf t k .state) two .live)) in
           pick (heritable (compare (m .0) (n .0))) m
           (omega (arith, ap (λ (z : Ticket). z .0) (w .1), register-small u (j .0) place (w .2)))
 
@@ -119,10 +127,20 @@ module _ (t : Table) (held : Held t) (ok : sound t ≡ true) where
       let h = inherited-small (k .0) (poll-in t k ok may .0) two in
       record { counter = held .counter; ticket = h; own = o; carried = h; answer = omega arith })
       (λ flag one. record { counter = held .counter; ticket = n; own = o; carried = n; answer = omega arith })
-  effect-small (I k) may =
-      let n = held .own (k .0) in record { counter = held .counter; ticket = n; own = n; carried = n; answer = omega arith }
+  effect-small (I k) may = let c = coreOf t (k .0) in go (t .counts .profile) (registerOf t (awaited c) (k .0) .flag)
+    where
+      go : (p : Profile) (flag : Bool) → Small (interrupt p (t .counter) (coreOf t (k .0)) flag)
+      go T flag = let n = held .own (k .0) in record { counter = held .counter; ticket = n; own = n; carried = n; answer = omega arith }
+      go D true = record { counter = held .counter; ticket = held .own (k .0); own = omega arith; carried = omega arith; answer = omega arith }
+      go D false = let n = held .own (k .0) in record { counter = held .counter; ticket = n; own = n; carried = n; answer = omega arith }
   effect-small (C k) may =
-      let n = held .own (k .0) in record { counter = held .counter; ticket = n; own = n; carried = n; answer = omega arith }
+      let n = held .own (k .0) in
+      let m = held .counter in
+      come-cases (t .counter) (coreOf t (k .0)) Small
+      (λ away. record { counter = m; ticket = n; own = n; carried = n; answer = omega arith })
+      (λ marked. record { counter = m; ticket = n; own = n; carried = n; answer = omega arith })
+      (λ gone. record { counter = after-small (t .counter .0); ticket = m; own = m; carried = m; answer = omega arith })
+      (may-come-back t k may .state)
   effect-small (L k) may =
       record { counter = held .counter; ticket = held .own (k .0); own = omega arith; carried = omega arith; answer = omega arith }
 
@@ -165,20 +183,39 @@ module _ (t : Table) (x : Step) (held : Held t) (ok : sound t ≡ true) where
           (subst Q (sym (moves-moved t (held .shaped) (parts t ok) x may .becomes)) new)
       at-core Q new old j (inr d) = subst Q (sym (moves-moved t (held .shaped) (parts t ok) x may .others j d)) (old j)
 
--- settling keeps the cores and the counter
-held-settled : (t : Table) → Held t → Held (settle t .table)
-held-settled t held =
-    let same = settle-same t in
+-- settling that drops nobody keeps the cores and the counter
+held-settled : (t : Table) → AllPresent t → Held t → Held (settle t .table)
+held-settled t present held =
+    let same = settle-same t present in
     record {
-      shaped = settle-shaped t (held .shaped);
+      shaped = settle-shaped t present (held .shaped);
       counter = rw (same .2) (held .counter);
       own = rw (same .0) (held .own);
       carried = rw (same .0) (held .carried);
     }
 
+-- dropping ends tickets
+held-skipped : (t : Table) (x : Step) → Held t → sound t ≡ true → Held (skipped t x)
+held-skipped t x held ok =
+    record {
+      shaped = skipped-shaped t x (held .shaped) ok;
+      counter = rw (skipped-same t x .1) (held .counter);
+      own = λ k. at-core (λ c. c .own .0 < circle) k (held .own k) (omega arith);
+      carried = λ k. at-core (λ c. c .carried .0 < circle) k (held .carried k) (omega arith);
+    }
+  where
+    at-core : (Q : Core → Type 0) (k : ℕ) → Q (coreOf t k) → Q (dropped (coreOf t k)) → Q (coreOf (skipped t x) k)
+    at-core Q k old gone = ⊎-elim (λ e. subst Q (sym e) old) (λ e. subst Q (sym (e .1)) gone) (skipped-core t x (held .shaped) ok k)
+
 pub held-step : (t : Table) (x : Step) → Held t → sound t ≡ true → Held (step t x .table)
 held-step t x held ok =
-    by-verdict t x (λ (y : Stepped). Held (y .table)) ok (λ may. held-settled (moves t x) (held-moves t x held ok may)) (λ a. held)
+    let w = skipped t x in
+    let fine = skipped-sound t x (held .shaped) ok in
+    let there = held-skipped t x held ok in
+    subst (λ (y : Stepped). Held (y .table)) (on-sound w x fine ∙ sym (skip-first t x (held .shaped) ok) ∙ sym (on-sound t x ok))
+    (by-verdict w x (λ (y : Stepped). Held (y .table)) fine
+    (λ may. held-settled (moves w x) (skipped-present t x (held .shaped) ok may) (held-moves w x there fine may))
+    (λ a. there))
 
 -- every place of an array of idle cores reads idle, and so does every place past it
 all-idle : (n k : ℕ) → getD (replicate n idle) k idle ≡ idle
@@ -198,9 +235,6 @@ held-fresh c n small =
 pub held-built : (c : Counts) (n : Ticket) → n .0 < circle → Held (build c n .table)
 held-built c n small = go (inRange c)
   where
-    least : Counts
-    least = record { cores = 1; first = 1; second = 0 }
-
     built : Bool → Built
     built b = cond b (record { table = fresh c n; answer = Done }) (record { table = fresh least (ticket 0); answer = OutOfRange })
 
@@ -210,20 +244,10 @@ held-built c n small = go (inRange c)
 
 -- The line
 
-first-few : (c : Counts) → inRange c ≡ true → c .first ≤ perClass
-first-few c e =
-    let a = leb 1 (c .cores) in
-    let b = leb (c .cores) cores in
-    let d = leb 1 (c .first) in
-    let f = leb (c .first) perClass in
-    leb-true (c .first) perClass (and-right (a && b && d) f (and-left (a && b && d && f) _ e))
-
 module _ (t : Table) (x : Step) (held : Held t) (ok : sound t ≡ true) (may : verdict t x ≡ Allowed) where
   -- a grant is of a unit and of a core
   grant-placed : (g : Grant) → List·Memᴰ g (listed (onSound t x .grants)) → (g .unit .0 < units) × (g .core .0 < cores)
-  grant-placed g m =
-      let d = grants-exactly t (held .shaped) ok x may g .0 m in
-      (d .place, next-won cores (unitOf (moves t x) (g .unit .0)) (g .core) (d .due .ticket) (d .due .oldest) .2)
+  grant-placed = granted-placed t (held .shaped) ok x
 
   grants-placed : (l : Grants) → onSound t x .grants ≡ l → Placed l
   grants-placed None e = tt

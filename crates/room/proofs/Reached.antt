@@ -9,6 +9,8 @@ use Rattle.ticket.specs.Order.{behind, compare, after}
 use Rattle.parts.specs.Fold.{upTo}
 use Rattle.parts.specs.Parts.{cores, units, coreNo, unitNo}
 use Rattle.parts.specs.Range.{perClass}
+use Rattle.parts.specs.declared.kinds.Fill.the-variants.{Blank}
+use Rattle.parts.specs.declared.kinds.Profile.the-variants.{T}
 use Rattle.parts.specs.declared.answer.Step.{Step}
 use Rattle.parts.specs.declared.answer.Step.the-variants.{R, N, P}
 use Rattle.plan.specs.Plan.{planStep}
@@ -18,9 +20,9 @@ use Rattle.block.specs.Steps.{step}
 use Rattle.block.specs.declared.table.Table.{Table}
 use Rattle.laws.proofs.Planned.{Fine, fine-fresh, tablePlanned, last-planned, last-fine}
 use Rattle.numbers.specs.Number.{numberMost, scan, digits}
-use Rattle.lines.specs.Bytes.{lineMost, letterT}
+use Rattle.lines.specs.Bytes.{lineMost}
 use Rattle.lines.specs.Reading.{ending}
-use Rattle.writing.specs.Writing.{headerBytes}
+use Rattle.writing.specs.Writing.{scriptHeader}
 use Rattle.expected.specs.Expected.{expectedMost}
 use Rattle.stops.specs.Run.{stepsMost, beginning}
 use Rattle.walks.specs.Walk.{lines}
@@ -46,13 +48,13 @@ before =
     []
 
 abbrev begun : Table
-begun = fresh (record { cores = 12; first = perClass; second = perClass }) (ticket numberMost)
+begun = fresh (record { cores = 12; first = perClass; second = perClass; profile = T; fill = Blank }) (ticket numberMost)
 
 abbrev held : Table
 held = lastPlace (λ t x. step t x .table) begun before
 
 begun-fine : Fine begun
-begun-fine = fine-fresh (record { cores = 12; first = perClass; second = perClass }) (ticket numberMost) refl
+begun-fine = fine-fresh (record { cores = 12; first = perClass; second = perClass; profile = T; fill = Blank }) (ticket numberMost) refl
 
 -- what the release of core 0, `L 0`, writes on a table
 abbrev released : Table → ℕ
@@ -68,7 +70,7 @@ line-reached =
 
 -- the header of the largest table
 abbrev header : List ℕ
-header = headerBytes letterT (record { cores = cores; first = perClass; second = perClass }) (ticket numberMost)
+header = scriptHeader (record { cores = cores; first = perClass; second = perClass; profile = T; fill = Blank }) (ticket numberMost)
 
 pub header-reached : call beginning header (replicate lineMost 0) .desk .first .wrote ≡ lineMost
 unfolding upTo lines ending scan digits

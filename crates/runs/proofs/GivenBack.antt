@@ -16,6 +16,9 @@ use Rattle.block.specs.Table.{coreOf, registerOf}
 use Rattle.plan.specs.Plan.{planStep}
 use Rattle.block.specs.Steps.{step}
 use Rattle.block.specs.Over.{over}
+use Rattle.parts.specs.declared.kinds.Counts.{Counts}
+use Rattle.parts.specs.declared.kinds.Fill.the-variants.{Blank}
+use Rattle.parts.specs.declared.kinds.Profile.the-variants.{T}
 use Rattle.parts.specs.declared.answer.Step.{Step}
 use Rattle.parts.specs.declared.answer.Step.the-variants.{R, N, P, I, C, L}
 use Rattle.fairness.specs.Run.{Place, onward, afterAll, start}
@@ -25,8 +28,11 @@ use Rattle.laws.proofs.Planned.{planned, fine-fresh}
 use Rattle.fairness.specs.Stretch.{grants, gives}
 use Rattle.runs.proofs.Planned.{Good, planAll, plans, all-planned, all-good}
 
+abbrev few : Counts
+few = record { cores = 4; first = 2; second = 2; profile = T; fill = Blank }
+
 abbrev fresh : Place
-fresh = start (record { cores = 4; first = 2; second = 2 }) (ticket 100)
+fresh = start few (ticket 100)
 
 -- core 0 asks for unit 0 and is interrupted, core 2 holds unit 3, core 3 waits there, core 1 holds unit 0; core 0 comes back, and core 1 asks for
 -- unit 3
@@ -55,7 +61,7 @@ back = onward gone (P (coreNo 1))
 
 -- the places by the plans
 fresh-good : Good fresh
-fresh-good = fine-fresh (record { cores = 4; first = 2; second = 2 }) (ticket 100) refl
+fresh-good = fine-fresh few (ticket 100) refl
 
 -- after the steps that lead to a place
 abbrev by : List Step → Place

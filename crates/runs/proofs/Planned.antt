@@ -1,21 +1,28 @@
 -- Fairness' runs, computed by the plans of their steps (laws: Planned): what fairness says of a run with what its steps give as an argument. From a
 -- place with a sound table the plans give the same.
-use Prim.Native.Nat.{ℕ, _+_}
+use Prim.Native.Nat.{ℕ, _+_, _<_}
 use mathlib.Core.Bool.{Bool, true, false, cond, _&&_, _||_, not}
 use mathlib.Core.List.{List, [], _∷_}
 use mathlib.Core.Path.{_≡_, refl, _∙_, ap}
 use lib.Dec.{eqb, ltb}
+use Rattle.ticket.specs.Order.{circle}
 use Rattle.ticket.specs.declared.kinds.Grant.{Grant}
+use Rattle.ticket.specs.declared.kinds.Ticket.{Ticket}
 use Rattle.parts.specs.Fold.{one}
 use Rattle.parts.specs.Answer.{whose, numberOf}
+use Rattle.parts.specs.State.{isDropped}
+use Rattle.parts.specs.Range.{inRange}
 use Rattle.parts.specs.declared.answer.Step.{Step}
 use Rattle.parts.specs.declared.answer.Step.the-variants.{R, N, P, I, C, L}
+use Rattle.parts.specs.declared.kinds.Counts.{Counts}
 use Rattle.block.specs.Over.{over, lastPlace}
 use Rattle.block.specs.Steps.{step}
+use Rattle.block.specs.Table.{coreOf}
+use Rattle.block.specs.declared.table.Table.{Table}
 use Rattle.block.specs.declared.stepped.Stepped.{Stepped}
 use Rattle.laws.specs.Granting.{listed}
 use Rattle.laws.proofs.Planned.{Fine, planned, step-planned, planned-fine, over-planned}
-use Rattle.fairness.specs.Run.{Place, interrupts, onward, afterAll}
+use Rattle.fairness.specs.Run.{Place, Reached, interrupts, onward, afterAll, start}
 use Rattle.fairness.specs.Stretch.{grants, gives, grantsOf, entersAt, enters, leaves, stretch, among, passed, interruptions}
 
 -- The step s gave x.
@@ -23,8 +30,9 @@ use Rattle.fairness.specs.Stretch.{grants, gives, grantsOf, entersAt, enters, l
 abbrev accepts : Stepped → Bool
 accepts x = eqb (numberOf (x .answer)) 0
 
-abbrev asks : Step → Stepped → ℕ → Bool
-asks s x j = elim s [ R k u ↦ eqb (k .0) j && accepts x | N k u ↦ false | P k ↦ false | I k ↦ false | C k ↦ false | L k ↦ false ]
+abbrev asks : Table → Step → Stepped → ℕ → Bool
+asks t s x j =
+    elim s [ R k u ↦ eqb (k .0) j && accepts x | N k u ↦ false | P k ↦ false | I k ↦ false | C k ↦ eqb (k .0) j && isDropped (coreOf t (k .0) .state) && accepts x | L k ↦ false ]
 
 abbrev breaks : Step → Stepped → ℕ → Bool
 breaks s x j = elim s [ R k u ↦ false | N k u ↦ false | P k ↦ false | I k ↦ eqb (k .0) j && accepts x | C k ↦ false | L k ↦ false ]
@@ -33,8 +41,8 @@ abbrev gone : Place → Step → Stepped → Place
 gone p s x =
     record {
       table = x .table;
-      issued = p .issued + one (asks s x (whose s .0));
-      issue = λ (j : ℕ). cond (asks s x j) (p .issued) (p .issue j);
+      issued = p .issued + one (asks (p .table) s x (whose s .0));
+      issue = λ (j : ℕ). cond (asks (p .table) s x j) (p .issued) (p .issue j);
     }
 
 abbrev entering : Place → Step → ℕ → ℕ → Stepped → Bool
@@ -151,3 +159,60 @@ interruptions-planned e k p steps good =
     (λ q s later. planCounted e k q s + later)
     (λ q s later g. ap (λ (b : Bool). one (b && among e k (q .issue (whose s .0))) + later) (interrupts-planned q s (whose s .0) g)) p steps
     good
+
+-- A run from a fresh table that is in range is one that fairness speaks of.
+
+pub reaching : (c : Counts) (n : Ticket) → inRange c ≡ true → n .0 < circle → (steps : List Step) → Reached (afterAll (start c n) steps)
+reaching c n good fits steps = record { counts = c; counter = n; steps = steps; good = good; counterFits = fits; run = refl }
+
+-- In it a core enters by the step s, after the steps before, and others follow: the places by the plans, and whom a step gives unit u there.
+
+module _ (f : Place) (before : List Step) (s : Step) where
+  abbrev e : Place
+  e = onward (afterAll f before) s
+
+  abbrev p′ : Place
+  p′ = planAll f before
+
+  abbrev e′ : Place
+  e′ = planOn p′ s
+
+  pub record Entry : Type 0 where
+    pub p-good : Good p′
+    pub p-is : afterAll f before ≡ p′
+    pub e-good : Good e′
+    pub e-is : e ≡ e′
+    pub later-good : (steps : List Step) → Good (planAll e′ steps)
+    pub later-is : (steps : List Step) → afterAll e steps ≡ planAll e′ steps
+    pub later-gives : (steps : List Step) (z : Step) (u k : ℕ) → gives u k (grants (afterAll e steps) z) ≡ gives u k (planGrants (planAll e′ steps) z)
+
+  pub entry : Good f → Entry
+  entry good =
+      record {
+        p-good = p-good;
+        p-is = p-is;
+        e-good = e-good;
+        e-is = e-is;
+        later-good = later-good;
+        later-is = later-is;
+        later-gives = λ steps z u k.
+            ap (λ (x : Place). gives u k (grants x z)) (later-is steps) ∙ ap (gives u k) (grants-planned (planAll e′ steps) z (later-good steps));
+      }
+    where
+      p-good : Good p′
+      p-good = all-good f before good
+
+      p-is : afterAll f before ≡ p′
+      p-is = all-planned f before good
+
+      e-good : Good e′
+      e-good = onward-planned p′ s p-good .1
+
+      e-is : e ≡ e′
+      e-is = ap (λ (x : Place). onward x s) p-is ∙ onward-planned p′ s p-good .0
+
+      later-good : (steps : List Step) → Good (planAll e′ steps)
+      later-good steps = all-good e′ steps e-good
+
+      later-is : (steps : List Step) → afterAll e steps ≡ planAll e′ steps
+      later-is steps = ap (λ (x : Place). afterAll x steps) e-is ∙ all-planned e′ steps e-good

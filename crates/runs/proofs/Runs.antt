@@ -1,4 +1,4 @@
--- Runs computed, so that no claim is empty, and none could say more. In the first, core 2 comes back to unit 0 with ticket 65,533 while
+-- Runs of T computed, so that no claim is empty, and none could say more. In the first, core 2 comes back to unit 0 with ticket 65,533 while
 -- core 3, with a later one, has it; cores 0 and 1 have earlier ones. The counter wraps. The unit goes to core 0, to core 1 as core 0 is
 -- interrupted, to core 0 again, and then to core 2. In the second, core 2 is interrupted, and a later ticket gets the unit.
 use Prim.Native.Nat.{ℕ, _+_, _≤_, _<_}
@@ -13,7 +13,7 @@ use Rattle.ticket.specs.Kinds.{ticket}
 use Rattle.ticket.specs.Order.{behind, compare, after}
 use Rattle.ticket.specs.declared.order.Comparison.the-variants.{Older}
 use Rattle.parts.specs.Fold.{upTo, every}
-use Rattle.parts.specs.State.{isIdle, stands, holds}
+use Rattle.parts.specs.State.{isIdle, isLive, stands, holds}
 use Rattle.parts.specs.Parts.{coreNo, unitNo}
 use Rattle.block.specs.Table.{coreOf}
 use Rattle.parts.specs.Answer.{numberOf}
@@ -21,11 +21,14 @@ use Rattle.block.specs.Steps.{step}
 use Rattle.block.specs.Over.{over}
 use Rattle.parts.specs.declared.kinds.Counts.{Counts}
 use Rattle.parts.specs.declared.kinds.State.{State}
-use Rattle.parts.specs.declared.kinds.State.the-variants.{Idle, Waiting, Holding, WaitingSecond, HoldingBoth, Away}
+use Rattle.parts.specs.declared.kinds.State.the-variants.{Idle, Waiting, Holding, WaitingSecond, HoldingBoth, Away, Marked, Dropped}
+use Rattle.parts.specs.declared.kinds.Profile.the-variants.{T}
+use Rattle.parts.specs.declared.kinds.Fill.the-variants.{Blank}
 use Rattle.parts.specs.declared.answer.Step.{Step}
 use Rattle.parts.specs.declared.answer.Step.the-variants.{R, P, I, C, L}
 use Rattle.parts.proofs.Bools.{or-cases, clash, not-true-false}
 use Rattle.parts.proofs.Folds.{every-at}
+use Rattle.block.proofs.Suited.{live-busy}
 use Rattle.fairness.specs.Run.{Place, Reached, onward, afterAll, start}
 use Rattle.fairness.specs.Stretch.{grants, gives, grantsOf, enters, leaves, stretch, earlier, passed, interruptions}
 use Rattle.fairness.proofs.Invariant.{live-small, numbered}
@@ -51,27 +54,22 @@ use Rattle.runs.proofs.Planned.{
   stretch-planned,
   passed-planned,
   interruptions-planned,
+  Entry,
+  entry,
+  reaching,
 }
 
 abbrev r : ℕ → Step
 r k = R (coreNo k) (unitNo 0)
 
 abbrev few : Counts
-few = record { cores = 4; first = 1; second = 0 }
+few = record { cores = 4; first = 1; second = 0; profile = T; fill = Blank }
 
 abbrev fresh : Place
 fresh = start few (ticket 65531)
 
 reaches : (steps : List Step) → Reached (afterAll fresh steps)
-reaches steps =
-    record {
-      counts = few;
-      counter = ticket 65531;
-      steps = steps;
-      good = refl;
-      counterFits = omega arith;
-      run = refl;
-    }
+reaches = reaching few (ticket 65531) refl (omega arith)
 
 -- all four ask for the unit; the first three are interrupted, so that core 3 gets it; cores 0 and 1 come back
 abbrev before : List Step
@@ -108,17 +106,8 @@ e′ = planOn p′ back
 fresh-good : Good fresh
 fresh-good = fine-fresh few (ticket 65531) refl
 
-p-good : Good p′
-p-good = all-good fresh before fresh-good
-
-p-is : p ≡ p′
-p-is = all-planned fresh before fresh-good
-
-e-good : Good e′
-e-good = onward-planned p′ back p-good .1
-
-e-is : e ≡ e′
-e-is = ap (λ (x : Place). onward x back) p-is ∙ onward-planned p′ back p-good .0
+run : Entry fresh before back
+run = entry fresh before back fresh-good
 
 abbrev meanwhile : List Step
 meanwhile =
@@ -139,31 +128,20 @@ q = afterAll e meanwhile
 abbrev later : List Step → Place
 later steps = planAll e′ steps
 
-later-good : (steps : List Step) → Good (later steps)
-later-good steps = all-good e′ steps e-good
-
-later-is : (steps : List Step) → afterAll e steps ≡ later steps
-later-is steps = ap (λ (x : Place). afterAll x steps) e-is ∙ all-planned e′ steps e-good
-
--- whom a step gives unit 0, after steps that follow e
-later-gives : (steps : List Step) (s : Step) (k : ℕ) → gives 0 k (grants (afterAll e steps) s) ≡ gives 0 k (planGrants (later steps) s)
-later-gives steps s k =
-    ap (λ (x : Place). gives 0 k (grants x s)) (later-is steps) ∙ ap (gives 0 k) (grants-planned (later steps) s (later-good steps))
-
 -- whether core 2 leaves then, and the place after the step
 later-leaves : (steps : List Step) (s : Step) → leaves 2 0 (afterAll e steps) s ≡ planLeaves 2 0 (later steps) s
 later-leaves steps s =
-    ap (λ (x : Place). leaves 2 0 x s) (later-is steps) ∙ leaves-planned 2 0 (later steps) s (later-good steps)
+    ap (λ (x : Place). leaves 2 0 x s) (run .later-is steps) ∙ leaves-planned 2 0 (later steps) s (run .later-good steps)
 
 later-on : (steps : List Step) (s : Step) → onward (afterAll e steps) s ≡ planOn (later steps) s
-later-on steps s = ap (λ (x : Place). onward x s) (later-is steps) ∙ onward-planned (later steps) s (later-good steps) .0
+later-on steps s = ap (λ (x : Place). onward x s) (run .later-is steps) ∙ onward-planned (later steps) s (run .later-good steps) .0
 
 stays-planned : (steps : List Step) → stretch 2 0 e steps ≡ planStretch 2 0 e′ steps
-stays-planned steps = ap (λ (x : Place). stretch 2 0 x steps) e-is ∙ stretch-planned 2 0 e′ steps e-good
+stays-planned steps = ap (λ (x : Place). stretch 2 0 x steps) (run .e-is) ∙ stretch-planned 2 0 e′ steps (run .e-good)
 
 pub entered : enters p back 2 0 ≡ true
 unfolding behind compare after upTo planStep over gives
-entered = ap (λ (x : Place). enters x back 2 0) p-is ∙ enters-planned p′ back 2 0 p-good
+entered = ap (λ (x : Place). enters x back 2 0) (run .p-is) ∙ enters-planned p′ back 2 0 (run .p-good)
 
 pub stays : stretch 2 0 e meanwhile ≡ true
 unfolding behind compare after upTo planStep over gives
@@ -172,21 +150,21 @@ stays = stays-planned meanwhile
 -- the counter wraps meanwhile
 pub wraps : (e .table .counter .0 ≡ 65535) × (q .table .counter .0 ≡ 1)
 unfolding behind compare after upTo planStep over
-wraps = (ap (λ (x : Place). x .table .counter .0) e-is, ap (λ (x : Place). x .table .counter .0) (later-is meanwhile))
+wraps = (ap (λ (x : Place). x .table .counter .0) (run .e-is), ap (λ (x : Place). x .table .counter .0) (run .later-is meanwhile))
 
 -- passed as often as the bound allows: two tickets and one interrupt
 pub exactly : (passed 0 e meanwhile ≡ 3) × (earlier e 2 ≡ 2) × (interruptions e 2 e meanwhile ≡ 1)
 unfolding behind compare after upTo planStep over gives grantsOf
 exactly = (
-  ap (λ (x : Place). passed 0 x meanwhile) e-is ∙ passed-planned 0 e′ meanwhile e-good,
-  ap (λ (x : Place). earlier x 2) e-is,
-  ap (λ (x : Place). interruptions x 2 x meanwhile) e-is ∙ interruptions-planned e′ 2 e′ meanwhile e-good,
+  ap (λ (x : Place). passed 0 x meanwhile) (run .e-is) ∙ passed-planned 0 e′ meanwhile (run .e-good),
+  ap (λ (x : Place). earlier x 2) (run .e-is),
+  ap (λ (x : Place). interruptions x 2 x meanwhile) (run .e-is) ∙ interruptions-planned e′ 2 e′ meanwhile (run .e-good),
 )
 
 -- and then granted
 pub at-last : gives 0 2 (grants q (L (coreNo 0))) ≡ true
 unfolding behind compare after upTo planStep over gives
-at-last = later-gives meanwhile (L (coreNo 0)) 2
+at-last = run .later-gives meanwhile (L (coreNo 0)) 0 2
 
 -- core 1's new ticket is 0, and that of core 2 reads older
 pub across :
@@ -196,7 +174,7 @@ pub across :
     (q .issue 1 ≡ 5)
 unfolding behind compare after upTo planStep over
 across =
-    let is = later-is meanwhile in (
+    let is = run .later-is meanwhile in (
       ap (λ (x : Place). coreOf (x .table) 1 .own .0) is,
       ap (λ (x : Place). compare (coreOf (x .table) 2 .own .0) (coreOf (x .table) 1 .own .0)) is,
       ap (λ (x : Place). x .issue 2) is,
@@ -205,26 +183,32 @@ across =
 
 -- The bound less one, and the bound without the interrupts, are false.
 
+profile : p .table .counts .profile ≡ T
+unfolding behind compare after upTo planStep over
+profile = ap (λ (x : Place). x .table .counts .profile) (run .p-is)
+
 pub not-less :
     ((p : Place) (s : Step) (k u : ℕ) (more : List Step) →
+    p .table .counts .profile ≡ T →
     Reached p →
     enters p s k u ≡ true →
     stretch k u (onward p s) more ≡ true →
     passed u (onward p s) more < earlier (onward p s) k + interruptions (onward p s) k (onward p s) more) →
     ⊥
 not-less claim =
-    let x = claim p back 2 0 meanwhile (reaches before) entered stays in
+    let x = claim p back 2 0 meanwhile profile (reaches before) entered stays in
     omega (arith, exactly)
 
 pub not-uncounted :
     ((p : Place) (s : Step) (k u : ℕ) (more : List Step) →
+    p .table .counts .profile ≡ T →
     Reached p →
     enters p s k u ≡ true →
     stretch k u (onward p s) more ≡ true →
     passed u (onward p s) more ≤ earlier (onward p s) k) →
     ⊥
 not-uncounted claim =
-    let x = claim p back 2 0 meanwhile (reaches before) entered stays in
+    let x = claim p back 2 0 meanwhile profile (reaches before) entered stays in
     omega (arith, exactly)
 
 -- "Earlier by two or more" is false: core 1 has the number just before that of core 2.
@@ -242,9 +226,9 @@ unfolding behind compare after upTo planStep over gives
 next-before = (
   stays-planned some,
   later-leaves some (I (coreNo 0)),
-  later-gives some (I (coreNo 0)) 1,
+  run .later-gives some (I (coreNo 0)) 0 1,
   ap (λ (x : Place). x .issue 1) (later-on some (I (coreNo 0))),
-  ap (λ (x : Place). x .issue 2) e-is,
+  ap (λ (x : Place). x .issue 2) (run .e-is),
 )
 
 pub not-by-two :
@@ -282,13 +266,15 @@ unpolled =
           ap (λ (x : Stepped). numberOf (x .answer)) (plans (planAll fresh steps) (P (coreNo 0)) (all-good fresh steps fresh-good)),
     )
 
-holds-live : (z : State) → holds z ≡ true → isIdle z ≡ false
+holds-live : (z : State) → holds z ≡ true → isLive z ≡ true
 holds-live Idle h = absurd (clash h refl)
 holds-live Waiting h = refl
 holds-live Holding h = refl
 holds-live WaitingSecond h = refl
 holds-live HoldingBoth h = refl
 holds-live Away h = refl
+holds-live Marked h = refl
+holds-live Dropped h = absurd (clash h refl)
 
 pub not-holding-only :
     ((p : Place) (k : ℕ) →
@@ -308,7 +294,7 @@ not-holding-only claim =
     let low = ltb-true j (asked .table .counts .cores) small in
     let free = every-at (λ (j : ℕ). not (holds (coreOf (asked .table) j .state))) (few .cores) (unpolled .2) j (omega (arith, unpolled .1)) in
     clash (x .1) (not-true-false (holds z) free))
-    (λ idle. clash idle live)
+    (λ idle. clash idle (live-busy z live))
     (or-cases (ltb j (asked .table .counts .cores)) (isIdle z) (good .sound .core j (live-small (asked .table) (good .shaped) j live) .within))
 
 -- The second run: core 2 is interrupted, which ends the stretch. It must: the next grant is of a later ticket.
@@ -328,7 +314,7 @@ unfolding behind compare after upTo planStep over gives
 interrupted = (
   later-leaves meanwhile called,
   stays-planned broken,
-  later-gives broken (L (coreNo 0)) 3,
+  run .later-gives broken (L (coreNo 0)) 0 3,
   ap (λ (x : Place). x .issue 3) (later-on broken (L (coreNo 0))),
 )
 
@@ -351,9 +337,9 @@ still-ungranted :
     (onward (afterAll e broken) (L (coreNo 0)) .issue 3 ≡ 4)
 unfolding behind compare after upTo planStep over gives
 still-ungranted = (
-  ap (λ (x : Place). ungranted 2 0 x broken) e-is ∙ ungranted-planned 2 0 e′ broken e-good,
-  later-gives broken (L (coreNo 0)) 2,
-  later-gives broken (L (coreNo 0)) 3,
+  ap (λ (x : Place). ungranted 2 0 x broken) (run .e-is) ∙ ungranted-planned 2 0 e′ broken (run .e-good),
+  run .later-gives broken (L (coreNo 0)) 0 2,
+  run .later-gives broken (L (coreNo 0)) 0 3,
   ap (λ (x : Place). x .issue 3) (later-on broken (L (coreNo 0))),
 )
 

@@ -6,6 +6,7 @@ use Rattle.settling.proofs.line.stored.Reads as stored
 use Rattle.settling.proofs.next.next_shown.Reads as next-shown
 use Rattle.settling.proofs.next.shown.Reads as shown
 use Rattle.settling.proofs.next.shows_next.Reads as shows-next
+use Rattle.settling.proofs.dropping.drop_away.Reads as drop-away
 use Rattle.settling.proofs.settle.enter.Reads as enter
 use Rattle.settling.proofs.settle.leave.Reads as leave
 use Rattle.settling.proofs.settle.carry.Reads as carry
@@ -53,3 +54,6 @@ repicked-determined κs a x y s t p q = p ∙ sym q
 
 pub changed-determined : Determines changed.Post
 changed-determined κs a x y s t p q = p ∙ sym q
+
+pub drop-away-determined : Determines drop-away.Post
+drop-away-determined κs a x y s t p q = p ∙ sym q

@@ -4,4 +4,6 @@ pub mod Lining
 pub mod Marking
 pub mod Picking
 pub mod NextInLine
+pub mod DroppedAway
+pub mod InFront
 pub mod Determined

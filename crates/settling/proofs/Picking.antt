@@ -37,7 +37,7 @@ Lined x j = inLine (registerIn x j) ≡ true
 abbrev Over : ℕ → LockUnit → ℕ → Type 0
 Over n x k = (j : ℕ) → j < n → j ≢ k → Lined x j → compare (at x k) (at x j) ≡ Older
 
-is-older : (c : Comparison) → isOlder c ≡ true → c ≡ Older
+pub is-older : (c : Comparison) → isOlder c ≡ true → c ≡ Older
 is-older Older e = refl
 is-older Younger e = absurd (clash e refl)
 is-older Same e = absurd (clash e refl)

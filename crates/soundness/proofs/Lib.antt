@@ -1,3 +1,4 @@
 pub mod Determined
 pub mod Plain
 pub mod NextAsked
+pub mod Profiles

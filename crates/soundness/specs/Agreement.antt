@@ -6,11 +6,12 @@ use lib.Dec.{eqb}
 use lib.ListN.{getD}
 use Rattle.ticket.specs.declared.kinds.Ticket.{Ticket}
 use Rattle.parts.specs.Fold.{every, some, one, count}
-use Rattle.parts.specs.State.{stands, holdsFirst, holdsBoth, twoStage}
+use Rattle.parts.specs.State.{stands, isMarked, holdsFirst, holdsBoth, twoStage}
 use Rattle.parts.specs.Parts.{cores, idle, registerIn}
 use Rattle.parts.specs.declared.kinds.Register.{Register}
 use Rattle.parts.specs.declared.kinds.LockUnit.{LockUnit}
 use Rattle.parts.specs.declared.kinds.Core.{Core}
+use Rattle.parts.specs.declared.kinds.State.{State}
 use Rattle.settling.specs.Shown.{showsNext}
 
 -- "an invalid register has ticket 0 and no flag"
@@ -21,11 +22,15 @@ isBlank r = eqb (r .ticket .0) 0 && not (r .valid) && not (r .flag)
 abbrev pub shows : Register → Ticket → Bool → Bool
 shows r n held = r .valid && eqb (r .ticket .0) (n .0) && (r .flag || not held)
 
+-- "an away core .. registered at its unit without a flag"
+abbrev pub flagless : State → Register → Bool
+flagless z r = not (isMarked z) || not (r .flag)
+
 -- "registers and flags agree with every core's state (idle and away stand nowhere; holding means flag set)"; "first-unit registers
--- show own tickets, second-unit registers carried ones"
+-- show own tickets, second-unit registers carried ones". In D a core that is marked away stands where it stood.
 abbrev pub agrees : Core → ℕ → Register → Bool
 agrees c u r =
-    cond (stands (c .state) && eqb u (c .first .0)) (shows r (c .own) (holdsFirst (c .state)))
+    cond (stands (c .state) && eqb u (c .first .0)) (flagless (c .state) r && shows r (c .own) (holdsFirst (c .state)))
     (cond (twoStage (c .state) && eqb u (c .second .0)) (shows r (c .carried) (holdsBoth (c .state))) (isBlank r))
 
 -- some register of the unit is valid

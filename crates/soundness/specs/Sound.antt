@@ -1,4 +1,5 @@
--- "Sound. A table is sound when: .." The clauses that speak of its cores, in the paragraph's order and words.
+-- "Sound. A table is sound when: .." The clauses that speak of its cores, in the paragraph's order and words; with what "soundness here wants" of
+-- the dequeueing profile (document 02, wish 10).
 use Prim.Native.Nat.{ℕ, _+_}
 use mathlib.Core.Bool.{Bool, true, false, cond, _&&_, _||_, not}
 use mathlib.Core.List.{List}
@@ -9,7 +10,8 @@ use Rattle.ticket.specs.declared.kinds.Ticket.{Ticket}
 use Rattle.ticket.specs.declared.order.Comparison.{Comparison}
 use Rattle.ticket.specs.declared.order.Comparison.the-variants.{Older, Younger, Same, Opposite}
 use Rattle.parts.specs.Fold.{every, some}
-use Rattle.parts.specs.State.{isIdle, twoStage, unserved}
+use Rattle.parts.specs.State.{isIdle, isLive, isDropped, twoStage, unserved}
+use Rattle.parts.specs.Profile.{suits}
 use Rattle.parts.specs.Parts.{cores, idle}
 use Rattle.parts.specs.declared.kinds.Core.{Core}
 use Rattle.parts.specs.declared.kinds.Counts.{Counts}
@@ -18,9 +20,17 @@ use Rattle.parts.specs.declared.kinds.Counts.{Counts}
 abbrev pub within : Counts → ℕ → Core → Bool
 within n k c = ltb k (n .cores) || isIdle (c .state)
 
+-- the core's state is one of its profile's: in D "an away core either registered at its unit .., or dropped", and no second unit; neither in T
+abbrev pub suited : Counts → Core → Bool
+suited n c = suits (n .profile) (c .state)
+
 -- "an idle core has ticket 0"
 abbrev pub idleBlank : Core → Bool
 idleBlank c = not (isIdle (c .state)) || (eqb (c .own .0) 0 && eqb (c .first .0) 0)
+
+-- "dropped: .. no ticket, its 0 blank"
+abbrev pub droppedBlank : Core → Bool
+droppedBlank c = not (isDropped (c .state)) || eqb (c .own .0) 0
 
 -- "every unit a core names is in the table"; "a held or awaited second is of the second class, and its first of the first class"
 abbrev pub names : Counts → Core → Bool → Bool
@@ -37,12 +47,12 @@ abbrev pub halfBehind : Comparison → Bool
 halfBehind x = elim x [ Older ↦ true | Younger ↦ false | Same ↦ false | Opposite ↦ true ]
 
 abbrev pub recent : Ticket → Core → Bool
-recent m c = isIdle (c .state) || halfBehind (compare (c .own .0) (m .0))
+recent m c = not (isLive (c .state)) || halfBehind (compare (c .own .0) (m .0))
 
--- "own tickets differ pairwise": core k, which is c, and core j, which is d. On the circle the one does not lie 0 behind the other; of tickets
--- of sixteen bits that is the same (`differ-plain`).
+-- "own tickets differ pairwise": core k, which is c, and core j, which is d, if both tickets are live. On the circle the one does not lie 0 behind
+-- the other; of tickets of sixteen bits that is the same (`differ-plain`).
 abbrev pub differ : ℕ → Core → ℕ → Core → Bool
-differ k c j d = eqb k j || isIdle (c .state) || isIdle (d .state) || not (eqb (behind (c .own .0) (d .own .0)) 0)
+differ k c j d = eqb k j || not (isLive (c .state)) || not (isLive (d .state)) || not (eqb (behind (c .own .0) (d .own .0)) 0)
 
 -- "a core waiting for or away from the unit this core holds first": c's carried ticket belongs to d
 abbrev pub lends : Core → Core → Bool
@@ -65,4 +75,11 @@ carries all c =
 unfoldable pub coreSound : Counts → Ticket → List Core → ℕ → Bool
 coreSound n m all k =
     let c = getD all k idle in
-    within n k c && idleBlank c && named n c && recent m c && every (λ (j : ℕ). differ k c j (getD all j idle)) cores && carries all c
+    within n k c &&
+    suited n c &&
+    idleBlank c &&
+    droppedBlank c &&
+    named n c &&
+    recent m c &&
+    every (λ (j : ℕ). differ k c j (getD all j idle)) cores &&
+    carries all c

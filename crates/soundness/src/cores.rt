@@ -2,7 +2,10 @@
 use parts::CORES;
 use parts::Core;
 use parts::Counts;
+use parts::is_dropped;
 use parts::is_idle;
+use parts::is_live;
+use parts::suits;
 use parts::two_stage;
 use parts::unserved;
 use ticket::Comparison;
@@ -15,7 +18,7 @@ ghost use Prim.Native.Nat.{_<_};
 ghost use lib.ListN.{getD};
 ghost use Rattle.parts.specs.Fold.{every, some};
 ghost use Rattle.parts.specs.Parts.{cores, idle};
-ghost use Rattle.soundness.specs.Sound.{coreSound, within, idleBlank, named, names, halfBehind, recent, differ, readsOlder, carries, lends};
+ghost use Rattle.soundness.specs.Sound.{coreSound, within, suited, idleBlank, droppedBlank, named, names, halfBehind, recent, differ, readsOlder, carries, lends};
 
 // Whether every core is sound.
 pub fn cores_sound(counts: Counts, counter: Ticket, all: [Core; CORES]) -> bool
@@ -39,7 +42,9 @@ fn core_sound(counts: Counts, counter: Ticket, all: [Core; CORES], k: CoreNo) ->
     let i = k.0 as usize;
     let c = all[i];
     within(counts, k, c)
+        & suited(counts, c)
         & idle_blank(c)
+        & dropped_blank(c)
         & named(counts, c)
         & recent(counter, c)
         & apart(all, k, c)
@@ -54,6 +59,15 @@ fn within(counts: Counts, k: CoreNo, c: Core) -> bool
     (k.0 < counts.cores) | is_idle(s)
 }
 
+// The table's profile has the core's state.
+fn suited(counts: Counts, c: Core) -> bool
+    ensures { λ r. ⌜ r ≡ suited counts c ⌝ }
+{
+    let p = counts.profile;
+    let s = c.state;
+    suits(p, s)
+}
+
 // An idle core has ticket 0, and names no unit.
 fn idle_blank(c: Core) -> bool
     ensures { λ r. ⌜ r ≡ idleBlank c ⌝ }
@@ -62,6 +76,15 @@ fn idle_blank(c: Core) -> bool
     let own = c.own;
     let first = c.first;
     !is_idle(s) | ((own.0 == 0) & (first.0 == 0))
+}
+
+// A dropped core has ticket 0; it still names its unit.
+fn dropped_blank(c: Core) -> bool
+    ensures { λ r. ⌜ r ≡ droppedBlank c ⌝ }
+{
+    let s = c.state;
+    let own = c.own;
+    !is_dropped(s) | (own.0 == 0)
 }
 
 // The units that a core names are in the table, and of the right classes.
@@ -103,13 +126,13 @@ fn half_behind(x: Comparison) -> bool
     }
 }
 
-// The own ticket lies 1 to 32,768 behind the counter.
+// The own ticket, if it is live, lies 1 to 32,768 behind the counter.
 fn recent(counter: Ticket, c: Core) -> bool
     ensures { λ r. ⌜ r ≡ recent counter c ⌝ }
 {
     let s = c.state;
     let own = c.own;
-    is_idle(s) | half_behind(compare(own, counter))
+    !is_live(s) | half_behind(compare(own, counter))
 }
 
 // No other core has the ticket of core k, which is c.
@@ -127,7 +150,7 @@ fn apart(all: [Core; CORES], k: CoreNo, c: Core) -> bool
     ok
 }
 
-// Cores k and j, which are c and d, are the same, or one of them has no ticket, or their tickets differ: on the circle
+// Cores k and j, which are c and d, are the same, or one of their tickets is not live, or they differ: on the circle
 // the one does not lie 0 behind the other.
 fn differ(k: CoreNo, c: Core, j: CoreNo, d: Core) -> bool
     ensures { λ r. ⌜ r ≡ differ (k .0) c (j .0) d ⌝ }
@@ -137,7 +160,7 @@ fn differ(k: CoreNo, c: Core, j: CoreNo, d: Core) -> bool
     let a = c.own;
     let b = d.own;
     let far = behind(a, b);
-    (k.0 == j.0) | is_idle(s) | is_idle(z) | !(far == 0)
+    (k.0 == j.0) | !is_live(s) | !is_live(z) | !(far == 0)
 }
 
 // Whether a carried ticket that compares so with the own one reads older.

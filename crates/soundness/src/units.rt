@@ -3,8 +3,10 @@ use parts::CORES;
 use parts::Core;
 use parts::LockUnit;
 use parts::Register;
+use parts::State;
 use parts::holds_both;
 use parts::holds_first;
+use parts::is_marked;
 use parts::stands;
 use parts::two_stage;
 use settling::shows_next;
@@ -14,7 +16,7 @@ ghost use mathlib.Core.Path.{_≡_};
 ghost use lib.ListN.{getD};
 ghost use Rattle.parts.specs.Fold.{every, count, one};
 ghost use Rattle.parts.specs.Parts.{cores, idle, registerIn};
-ghost use Rattle.soundness.specs.Agreement.{unitSound, agrees, shows, isBlank, oneFlag, anyValid};
+ghost use Rattle.soundness.specs.Agreement.{unitSound, agrees, flagless, shows, isBlank, oneFlag, anyValid};
 
 // The clauses of unit u, which is x.
 pub fn unit_sound(all: [Core; CORES], u: UnitNo, x: LockUnit) -> bool
@@ -49,12 +51,19 @@ fn agrees(c: Core, u: UnitNo, r: Register) -> bool
     let first = c.first;
     let second = c.second;
     if stands(s) & (u.0 == first.0) {
-        shows(r, own, holds_first(s))
+        flagless(s, r) & shows(r, own, holds_first(s))
     } else if two_stage(s) & (u.0 == second.0) {
         shows(r, carried, holds_both(s))
     } else {
         is_blank(r)
     }
+}
+
+// A core that is marked away has no flag in its register.
+fn flagless(s: State, r: Register) -> bool
+    ensures { λ x. ⌜ x ≡ flagless s r ⌝ }
+{
+    !is_marked(s) | !r.flag
 }
 
 // A valid register with this ticket, its flag set if the unit is held.

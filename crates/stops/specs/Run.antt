@@ -3,7 +3,7 @@
 use Prim.Native.Nat.{ℕ}
 use mathlib.Core.Bool.{false}
 use Rattle.ticket.specs.Kinds.{ticket}
-use Rattle.building.specs.Build.{build}
+use Rattle.building.specs.Build.{least, build}
 use Rattle.stops.specs.declared.run.Run.{Run}
 use Rattle.stops.specs.declared.run.Stop.{Stop}
 use Rattle.stops.specs.declared.run.Stop.the-variants.{Finished, Unsound, BadHeader, Malformed, Unfinished, NoRoom, TooMany}
@@ -15,7 +15,7 @@ stepsMost = 1000000
 -- before the header; the table that stands here is not looked at
 abbrev pub beginning : Run
 beginning =
-    let t = build (record { cores = 1; first = 1; second = 0 }) (ticket 0) .table in
+    let t = build least (ticket 0) .table in
     record { place = 0; wrote = 0; table = t; steps = 0; headed = false }
 
 abbrev pub stopNumber : Stop → ℕ

@@ -2,6 +2,8 @@
 use block::Table;
 use building::build;
 use parts::Counts;
+use parts::Fill;
+use parts::Profile;
 use ticket::Ticket;
 ghost use mathlib.Core.Path.{_≡_};
 ghost use Rattle.stops.specs.Run.{beginning, stopNumber};
@@ -44,6 +46,8 @@ pub fn beginning() -> Run
         cores: 1,
         first: 1,
         second: 0,
+        profile: Profile::T,
+        fill: Fill::Blank,
     };
     let built = build(counts, Ticket(0));
     let table = built.table;

@@ -18,14 +18,14 @@ use Rattle.parts.specs.declared.answer.Step.{Step}
 use Rattle.block.specs.declared.stepped.Stepped.{Stepped}
 use Rattle.parts.specs.declared.kinds.Counts.{Counts}
 use Rattle.block.specs.declared.table.Table.{Table}
-use Rattle.lines.specs.Bytes.{letterE}
+use Rattle.lines.specs.Bytes.{outputLetter}
 use Rattle.lines.specs.Reading.{readStep}
 use Rattle.headers.specs.Header.{readHeader}
 use Rattle.digits.specs.Text.{Puts}
 use Rattle.digits.specs.Room.{fits, wrote, left}
 use Rattle.digits.proofs.Pasting.{written as put-so}
 use Rattle.expected.specs.Expected.{expectedBytes}
-use Rattle.writing.specs.Writing.{headerBytes, wroteHeader, leftHeader}
+use Rattle.writing.specs.Writing.{outputHeader, wroteHeader, leftHeader}
 use Rattle.headers.specs.declared.reading.HeaderLine.{HeaderLine}
 use Rattle.headers.specs.declared.reading.HeaderLine.the-variants.{Header, BadHeader as NoHeader, Unfinished as CutHeader}
 use Rattle.lines.specs.declared.reading.StepLine.{StepLine}
@@ -244,12 +244,12 @@ module _ (r : Run) (s out : List ℕ) (unread : r .headed ≡ false) (h : Header
 
   module _ (c : Counts) (n : Ticket) (next : ℕ) (is : h ≡ Header c n next) (w : Written) (o : List ℕ) where
     abbrev first : List ℕ
-    first = headerBytes letterE c n
+    first = outputHeader c n
 
     ranged : inRange c ≡ true
     ranged = header-read-is-written s (r .place) c n next (sym says ∙ is) .1
 
-    module _ (wrote-so : (w ≡ wroteHeader out (r .wrote) letterE c n) × (o ≡ leftHeader out (r .wrote) letterE c n)) where
+    module _ (wrote-so : (w ≡ wroteHeader out (r .wrote) (outputLetter (c .profile)) c n) × (o ≡ leftHeader out (r .wrote) (outputLetter (c .profile)) c n)) where
       put : w ≡ wrote out (r .wrote) first
       put = wrote-so .0 ∙ ap (λ (b : Bool). cond b (wrote out (r .wrote) first) OutOfRange) ranged
 

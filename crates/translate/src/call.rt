@@ -1,6 +1,7 @@
 // One call: lines are read, worked and answered until one stops the run, which then stands at its start.
 use block::Table;
 use block::gathered;
+use block::gives_way;
 use block::nexts_of;
 use block::rows_of;
 use block::unit_with;
@@ -8,6 +9,7 @@ use building::build;
 use digits::Written;
 use headers::HeaderLine;
 use parts::Counts;
+use parts::dequeues;
 use places::core_place;
 use places::other_place;
 use places::unit_place;
@@ -18,8 +20,11 @@ use refusals::is_live;
 use refusals::late_for;
 use refusals::lives_of;
 use refusals::owns_of;
+use settling::Dropping;
+use settling::drop_away;
 use settling::passed_to;
 use settling::repicked;
+use settling::stored;
 use settling::with_flag;
 use stops::Run;
 use stops::Stop;
@@ -82,10 +87,17 @@ fn step_lines(run: Run, fit: bool, script: &[u8], out: &mut [u8]) -> Stopped
 {
     let mut at = run;
     let mut table = run.table;
+    let counts = table.counts;
+    let profile = counts.profile;
+    let dequeuing = dequeues(profile);
     let mut rows = rows_of(table);
     let mut nexts = nexts_of(table);
     let mut lives = lives_of(table.cores);
     let mut owns = owns_of(table.cores);
+    let mut d = Dropping {
+        unit: unit_with(rows[0], nexts[0]),
+        cores: table.cores,
+    };
     loop {
         match due(script, at.place, at.steps, fit) {
             Todo::Stop(why) => return stopped(at, gathered(table, rows, nexts), why),
@@ -95,9 +107,23 @@ fn step_lines(run: Run, fit: bool, script: &[u8], out: &mut [u8]) -> Stopped
                 let c = table.cores[k];
                 let i = unit_place(s, c).0 as usize;
                 let j = other_place(s, c).0 as usize;
-                let x = Part::of(rows[i][k], nexts[i]);
-                let y = Part::of(rows[j][k], nexts[j]);
-                let late = late_for(s, table.counts, table.counter, &lives, &owns);
+                let mut v = nexts[i];
+                let mut z = nexts[j];
+                let mut drops = false;
+                if dequeuing {
+                    let w = passed_to(stored(v), o).0 as usize;
+                    let f = table.cores[w];
+                    drops = gives_way(s, table.counts, c, rows[i][k], f);
+                    if drops {
+                        d = drop_away(table.counts.cores, unit_with(rows[i], v), table.cores);
+                        let u = d.unit;
+                        v = u.next;
+                        z = u.next;
+                    }
+                }
+                let x = Part::of(rows[i][k], v);
+                let y = Part::of(rows[j][k], z);
+                let late = late_for(s, c, table.counts, table.counter, &lives, &owns);
                 let p = plan_step(s, table.counts, table.counter, late, c, x, y);
                 if !line_fits(out.len(), at.wrote, at.steps + 1, p) {
                     return stopped(at, gathered(table, rows, nexts), Stop::NoRoom); // 23
@@ -106,6 +132,17 @@ fn step_lines(run: Run, fit: bool, script: &[u8], out: &mut [u8]) -> Stopped
                 let b = p.second;
                 let core = p.core;
                 let counter = p.counter;
+                if drops {
+                    let u = d.unit;
+                    let row = u.registers;
+                    let shown = u.next;
+                    let all = d.cores;
+                    rows[i] = row;
+                    nexts[i] = shown;
+                    table.cores = all;
+                    lives = lives_of(all);
+                    owns = owns_of(all);
+                }
                 if p.moves {
                     let q = b.register;
                     let z = b.next;

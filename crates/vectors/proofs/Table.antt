@@ -2,32 +2,24 @@
 -- known to be sound.
 use Prim.Native.Nat.{ℕ, zero, suc, _<_}
 use mathlib.Core.Bool.{true}
-use mathlib.Core.List.{[], _∷_}
-use mathlib.Core.Logic.{⊎-elim}
 use mathlib.Core.Path.{_≡_, refl, _∙_, ap}
 use native.Mathlib.Omega.{arith}
-use lib.Dec.{ltb}
 use lib.ListN.{length, replicate}
-use borrow.Author.Tests.{ltb-true}
 use Rattle.ticket.specs.Kinds.{ticket}
 use Rattle.ticket.specs.Order.{behind, compare, after}
-use Rattle.ticket.specs.declared.kinds.Ticket.{Ticket}
 use Rattle.parts.specs.Fold.{upTo}
-use Rattle.parts.specs.State.{isIdle}
 use Rattle.parts.specs.Parts.{coreNo, unitNo}
 use Rattle.parts.specs.Answer.{numberOf}
-use Rattle.parts.specs.declared.kinds.Counts.{Counts}
 use Rattle.parts.specs.declared.answer.Step.{Step}
 use Rattle.parts.specs.declared.answer.Step.the-variants.{R}
-use Rattle.parts.proofs.Bools.{or-left, or-cases}
 use Rattle.plan.specs.Plan.{planStep}
-use Rattle.building.specs.Build.{fresh}
-use Rattle.block.specs.Sound.{sound, recent}
+use Rattle.building.specs.Build.{fresh, least}
+use Rattle.block.specs.Sound.{recent}
 use Rattle.block.specs.Steps.{step}
 use Rattle.block.specs.Table.{coreOf, withCounter}
 use Rattle.block.specs.declared.stepped.Stepped.{Stepped}
 use Rattle.block.specs.declared.table.Table.{Table}
-use Rattle.block.proofs.Parts.{parts, whole}
+use Rattle.laws.proofs.Keeping.{counter-sound}
 use Rattle.laws.proofs.Planned.{Fine, fine-fresh, planned, step-planned, planned-fine}
 use Rattle.numbers.specs.Number.{scan, digits}
 use Rattle.lines.specs.Reading.{ending}
@@ -35,37 +27,9 @@ use Rattle.stops.specs.Run.{beginning}
 use Rattle.walks.specs.Walk.{lines}
 use Rattle.calls.specs.Call.{output}
 use Rattle.room.proofs.Planned.{call-planned}
-use Rattle.vectors.specs.Table.{script, columns, table, requestAt, Filled, Every}
-
--- a sound table is sound with another counter, if that lies so ahead of its cores' tickets
-counter-sound :
-    (t : Table) (n : Ticket) →
-    sound t ≡ true →
-    ((k : ℕ) → k < t .counts .cores → recent (withCounter t n) (coreOf t k) ≡ true) →
-    sound (withCounter t n) ≡ true
-counter-sound t n ok ahead =
-    let p = parts t ok in
-    whole (withCounter t n)
-    (record {
-      counts = p .counts;
-      core = λ k h.
-          let c = p .core k h in
-          record {
-            within = c .within;
-            idleBlank = c .idleBlank;
-            named = c .named;
-            recent = ⊎-elim (λ small. ahead k (ltb-true k (t .counts .cores) small)) (λ idle. or-left _ idle)
-                (or-cases (ltb k (t .counts .cores)) (isIdle (coreOf t k .state)) (c .within));
-            differ = c .differ;
-            carries = c .carries;
-          };
-      unit = λ u h. let x = p .unit u h in record { agrees = x .agrees; oneFlag = x .oneFlag; next = x .next };
-    })
+use Rattle.vectors.specs.Table.{script, columns, table, two, requestAt, Filled, Every}
 
 -- The rows of a request, with ticket 0 live.
-
-abbrev two : Counts
-two = record { cores = 2; first = 1; second = 0 }
 
 abbrev first : Table
 first = fresh two (ticket 0)
@@ -108,7 +72,7 @@ filled : Filled script columns
 unfolding behind compare after upTo planStep lines ending scan digits
 filled =
     let is =
-    call-planned beginning script (replicate (length columns) 0) (fine-fresh (record { cores = 1; first = 1; second = 0 }) (ticket 0) refl)
+    call-planned beginning script (replicate (length columns) 0) (fine-fresh least (ticket 0) refl)
     in
     (ap (λ (e : _). e .why) is, ap (λ (e : _). e .desk .first .wrote) is, ap output is)
 

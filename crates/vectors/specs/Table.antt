@@ -15,6 +15,9 @@ use Rattle.building.specs.Build.{fresh}
 use Rattle.parts.specs.Answer.{numberOf}
 use Rattle.block.specs.Steps.{step}
 use Rattle.parts.specs.declared.answer.Step.the-variants.{R}
+use Rattle.parts.specs.declared.kinds.Counts.{Counts}
+use Rattle.parts.specs.declared.kinds.Fill.the-variants.{Blank}
+use Rattle.parts.specs.declared.kinds.Profile.the-variants.{T}
 use Rattle.stops.specs.Run.{beginning}
 use Rattle.calls.specs.Call.{call, output}
 use Rattle.stops.specs.declared.run.Stop.the-variants.{Finished}
@@ -88,10 +91,14 @@ table =
     translates script columns ∷
     []
 
+-- two cores and one unit
+abbrev pub two : Counts
+two = record { cores = 2; first = 1; second = 0; profile = T; fill = Blank }
+
 -- the answer to a request with ticket 0 live, core 0's, and this counter
 unfoldable pub requestAt : ℕ → ℕ
 requestAt counter =
-    let live = step (fresh (record { cores = 2; first = 1; second = 0 }) (ticket 0)) (R (coreNo 0) (unitNo 0)) .table in
+    let live = step (fresh two (ticket 0)) (R (coreNo 0) (unitNo 0)) .table in
     numberOf (step (withCounter live (ticket counter)) (R (coreNo 1) (unitNo 0)) .answer)
 
 -- what a call on a whole script leaves in an output of just this room: it is finished, and has filled the output

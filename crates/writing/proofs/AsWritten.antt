@@ -1,7 +1,7 @@
 -- Whatever is read as a line is, byte for byte, what writing its value gives. For each definition of the reading half, what its answer
 -- says of the bytes that it was given: the line's end, each number with what follows it, the line without its end, the whole line.
 use Prim.Native.Nat.{ℕ, zero, suc, _+_, _-_, _≤_}
-use mathlib.Core.Bool.{Bool, true, false, cond, _&&_}
+use mathlib.Core.Bool.{Bool, true, false, cond}
 use mathlib.Core.List.{List, [], _∷_, _++_, append-assoc}
 use mathlib.Core.Path.{_≡_, refl, sym, _∙_, ap, subst}
 use native.Mathlib.Omega.{arith}
@@ -10,20 +10,21 @@ use lib.ListN.{length, getD, take, drop, length-append}
 use lib.Seq.{drop-drop, drop-append-add, take-append-seam, take-append-add}
 use borrow.Author.Tests.{eqb-true}
 use Rattle.ticket.specs.declared.kinds.Ticket.{Ticket}
-use Rattle.parts.proofs.Bools.{and-left, and-right}
 use Rattle.parts.specs.Range.{inRange}
 use Rattle.parts.specs.Parts.{coreNo, unitNo}
 use Rattle.parts.specs.declared.kinds.Counts.{Counts}
+use Rattle.parts.specs.declared.kinds.Profile.{Profile}
+use Rattle.parts.specs.declared.kinds.Profile.the-variants.{T, D}
 use Rattle.parts.specs.declared.answer.Step.{Step}
 use Rattle.parts.specs.declared.answer.Step.the-variants.{R, N, P, I, C, L}
 use Rattle.numbers.specs.Bytes.{tab, end}
-use Rattle.lines.specs.Bytes.{lineMost, letterT}
+use Rattle.lines.specs.Bytes.{lineMost, scriptLetter}
 use Rattle.lines.proofs.Letters.{letterR, letterN, letterP, letterI, letterC, letterL}
 use Rattle.numbers.specs.Number.{decimal, numberMost, field}
 use Rattle.lines.specs.Reading.{ending, lineEnd, oneNumber, twoNumbers, afterCore, afterLetter, parseStep, stepLine, readStep}
-use Rattle.headers.specs.Header.{withCounter, withSecond, withFirst, withCores, parseHeader, headerLine, readHeader}
+use Rattle.headers.specs.Header.{withCounter, withSecond, withFirst, withCores, withLetter, parseHeader, headerLine, readHeader}
 use Rattle.digits.specs.Text.{tabbed}
-use Rattle.writing.specs.Writing.{lettered, lettered2, numbersOf, stepBytes, headerBytes}
+use Rattle.writing.specs.Writing.{lettered, lettered2, numbersOf, stepBytes, scriptHeader}
 use Rattle.writing.specs.Claims.{Small, Stands}
 use Rattle.numbers.specs.declared.number.Field.{Field}
 use Rattle.numbers.specs.declared.number.Field.the-variants.{Bad, Last, Then}
@@ -200,7 +201,7 @@ step-read-is-written s at x next e = subst (LineSays s at) e (go (leb (length s)
 
 -- the line's bytes, its end with them, are the header as it is written
 abbrev HeadSays : List ℕ → ParsedHeader → Type 0
-HeadSays l (GoodHeader c n) = (l ≡ headerBytes letterT c n) × (n .0 ≤ numberMost)
+HeadSays l (GoodHeader c n) = (l ≡ scriptHeader c n) × (n .0 ≤ numberMost)
 HeadSays l NoHeader = Unit
 
 -- number by number, with what was read before it
@@ -208,57 +209,71 @@ module _ (s : List ℕ) where
   abbrev whole : List ℕ
   whole = s ++ (end ∷ [])
 
-  counter-says :
-      (a b c i : ℕ) →
-      s ≡ letterT ∷ (tabbed a ++ (tabbed b ++ (tabbed c ++ (tab ∷ drop i s)))) →
-      (w : Field) →
-      FieldSays s i w →
-      HeadSays whole (withCounter a b c w)
-  counter-says a b c i is Bad says = tt
-  counter-says a b c i is (Last n) (d, h) =
-      let all = is ∙ ap (λ (l : List ℕ). letterT ∷ (tabbed a ++ (tabbed b ++ (tabbed c ++ (tab ∷ l))))) d in
-      (ap (λ (l : List ℕ). l ++ (end ∷ [])) all ∙ simp append-assoc, h)
-  counter-says a b c i is (Then n j) says = tt
+  module _ (p : Profile) where
+    counter-says :
+        (a b c i : ℕ) →
+        s ≡ scriptLetter p ∷ (tabbed a ++ (tabbed b ++ (tabbed c ++ (tab ∷ drop i s)))) →
+        (w : Field) →
+        FieldSays s i w →
+        HeadSays whole (withCounter p a b c w)
+    counter-says a b c i is Bad says = tt
+    counter-says a b c i is (Last n) (d, h) =
+        let all = is ∙ ap (λ (l : List ℕ). scriptLetter p ∷ (tabbed a ++ (tabbed b ++ (tabbed c ++ (tab ∷ l))))) d in
+        (ap (λ (l : List ℕ). l ++ (end ∷ [])) all ∙ simp append-assoc, h)
+    counter-says a b c i is (Then n j) says = tt
 
-  second-says :
-      (a b i : ℕ) →
-      s ≡ letterT ∷ (tabbed a ++ (tabbed b ++ (tab ∷ drop i s))) →
-      (w : Field) →
-      FieldSays s i w →
-      HeadSays whole (withSecond s a b w)
-  second-says a b i is Bad says = tt
-  second-says a b i is (Last c) says = tt
-  second-says a b i is (Then c j) (d, h) =
-      counter-says a b c j (is ∙ ap (λ (l : List ℕ). letterT ∷ (tabbed a ++ (tabbed b ++ (tab ∷ l)))) d) (field s j) (field-says s j)
+    second-says :
+        (a b i : ℕ) →
+        s ≡ scriptLetter p ∷ (tabbed a ++ (tabbed b ++ (tab ∷ drop i s))) →
+        (w : Field) →
+        FieldSays s i w →
+        HeadSays whole (withSecond s p a b w)
+    second-says a b i is Bad says = tt
+    second-says a b i is (Last c) says = tt
+    second-says a b i is (Then c j) (d, h) =
+        counter-says a b c j (is ∙ ap (λ (l : List ℕ). scriptLetter p ∷ (tabbed a ++ (tabbed b ++ (tab ∷ l)))) d) (field s j) (field-says s j)
 
-  first-says :
-      (a i : ℕ) → s ≡ letterT ∷ (tabbed a ++ (tab ∷ drop i s)) → (w : Field) → FieldSays s i w → HeadSays whole (withFirst s a w)
-  first-says a i is Bad says = tt
-  first-says a i is (Last b) says = tt
-  first-says a i is (Then b j) (d, h) =
-      second-says a b j (is ∙ ap (λ (l : List ℕ). letterT ∷ (tabbed a ++ (tab ∷ l))) d) (field s j) (field-says s j)
+    first-says :
+        (a i : ℕ) → s ≡ scriptLetter p ∷ (tabbed a ++ (tab ∷ drop i s)) → (w : Field) → FieldSays s i w → HeadSays whole (withFirst s p a w)
+    first-says a i is Bad says = tt
+    first-says a i is (Last b) says = tt
+    first-says a i is (Then b j) (d, h) =
+        second-says a b j (is ∙ ap (λ (l : List ℕ). scriptLetter p ∷ (tabbed a ++ (tab ∷ l))) d) (field s j) (field-says s j)
 
-  cores-says : s ≡ letterT ∷ tab ∷ drop 2 s → (w : Field) → FieldSays s 2 w → HeadSays whole (withCores s w)
-  cores-says is Bad says = tt
-  cores-says is (Last a) says = tt
-  cores-says is (Then a i) (d, h) = first-says a i (is ∙ ap (λ (l : List ℕ). letterT ∷ tab ∷ l) d) (field s i) (field-says s i)
+    cores-says : s ≡ scriptLetter p ∷ tab ∷ drop 2 s → (w : Field) → FieldSays s 2 w → HeadSays whole (withCores s p w)
+    cores-says is Bad says = tt
+    cores-says is (Last a) says = tt
+    cores-says is (Then a i) (d, h) =
+        first-says a i (is ∙ ap (λ (l : List ℕ). scriptLetter p ∷ tab ∷ l) d) (field s i) (field-says s i)
 
-  head-says : HeadSays whole (parseHeader s)
-  head-says = go (eqb (getD s 0 0) letterT && eqb (getD s 1 0) tab) refl
+    profile-says : getD s 1 0 ≡ tab → getD s 0 0 ≡ scriptLetter p → HeadSays whole (withCores s p (field s 2))
+    profile-says second first =
+        cores-says (letter-tab s second ∙ ap (λ (c : ℕ). c ∷ tab ∷ drop 2 s) first) (field s 2) (field-says s 2)
+
+  opens-says : getD s 1 0 ≡ tab → HeadSays whole (withLetter s (getD s 0 0) (field s 2))
+  opens-says second = go (eqb (getD s 0 0) (scriptLetter T)) refl
     where
+      of-D : (t : Bool) → eqb (getD s 0 0) (scriptLetter D) ≡ t → HeadSays whole (cond t (withCores s D (field s 2)) NoHeader)
+      of-D true e = profile-says D second (eqb-true (getD s 0 0) (scriptLetter D) e)
+      of-D false e = tt
+
       go :
           (t : Bool) →
-          (eqb (getD s 0 0) letterT && eqb (getD s 1 0) tab) ≡ t →
-          HeadSays whole (cond t (withCores s (field s 2)) NoHeader)
-      go true e =
-          let first = eqb-true (getD s 0 0) letterT (and-left _ (eqb (getD s 1 0) tab) e) in
-          let second = eqb-true (getD s 1 0) tab (and-right (eqb (getD s 0 0) letterT) _ e) in
-          cores-says (letter-tab s second ∙ ap (λ (c : ℕ). c ∷ tab ∷ drop 2 s) first) (field s 2) (field-says s 2)
+          eqb (getD s 0 0) (scriptLetter T) ≡ t →
+          HeadSays whole (cond t (withCores s T (field s 2)) (cond (eqb (getD s 0 0) (scriptLetter D)) (withCores s D (field s 2)) NoHeader))
+      go true e = profile-says T second (eqb-true (getD s 0 0) (scriptLetter T) e)
+      go false e = of-D (eqb (getD s 0 0) (scriptLetter D)) refl
+
+  head-says : HeadSays whole (parseHeader s)
+  head-says = go (eqb (getD s 1 0) tab) refl
+    where
+      go : (t : Bool) → eqb (getD s 1 0) tab ≡ t → HeadSays whole (cond t (withLetter s (getD s 0 0) (field s 2)) NoHeader)
+      go true e = opens-says (eqb-true (getD s 1 0) tab e)
       go false e = tt
 
 abbrev HeaderSays : List ℕ → ℕ → HeaderLine → Type 0
 HeaderSays s at (Header c n next) =
-    Stands s at next (headerBytes letterT c n) × (inRange c ≡ true) × (n .0 ≤ numberMost)
+    Stands s at next (scriptHeader c n) × (inRange c ≡ true) × (n .0 ≤ numberMost)
 HeaderSays s at BadHeader = Unit
 HeaderSays s at Unended = Unit
 
@@ -284,7 +299,7 @@ header-to-says s at Short says = tt
 pub header-read-is-written :
     (s : List ℕ) (at : ℕ) (c : Counts) (n : Ticket) (next : ℕ) →
     readHeader s at ≡ Header c n next →
-    Stands s at next (headerBytes letterT c n) × (inRange c ≡ true) × (n .0 ≤ numberMost)
+    Stands s at next (scriptHeader c n) × (inRange c ≡ true) × (n .0 ≤ numberMost)
 header-read-is-written s at c n next e = subst (HeaderSays s at) e (go (leb (length s) at))
   where
     go : (t : Bool) → HeaderSays s at (cond t Unended (headerTo s at (lineEnd s at)))

@@ -1,26 +1,25 @@
 -- How long a script line and the output's first line are with their end: each field is bounded by its greatest number, and the sums
 -- are those of the definitions. A header reaches the bound; a step line has a byte less.
 use Prim.Native.Nat.{ℕ, _≤_}
-use mathlib.Core.Bool.{true, _&&_}
+use mathlib.Core.Bool.{true}
 use mathlib.Core.Path.{_≡_, refl}
 use native.Mathlib.Omega.{arith}
-use lib.Dec.{leb}
 use lib.ListN.{length, length-append}
-use borrow.Author.Tests.{leb-true}
 use Rattle.ticket.specs.Kinds.{ticket}
 use Rattle.ticket.specs.declared.kinds.Ticket.{Ticket}
-use Rattle.parts.proofs.Bools.{and-left, and-right}
-use Rattle.parts.proofs.Ranging.{cores-few}
+use Rattle.parts.proofs.Ranging.{cores-few, first-few, second-few}
 use Rattle.parts.specs.Range.{inRange, perClass}
 use Rattle.parts.specs.Parts.{cores}
 use Rattle.parts.specs.declared.kinds.Counts.{Counts}
+use Rattle.parts.specs.declared.kinds.Fill.the-variants.{Blank}
+use Rattle.parts.specs.declared.kinds.Profile.the-variants.{T}
 use Rattle.parts.specs.declared.answer.Step.{Step}
 use Rattle.parts.specs.declared.answer.Step.the-variants.{R, N, P, I, C, L}
-use Rattle.lines.specs.Bytes.{lineMost, letterT}
+use Rattle.lines.specs.Bytes.{lineMost}
 use Rattle.lines.proofs.Letters.{letterR, letterN, letterP, letterI, letterC, letterL}
 use Rattle.numbers.specs.Number.{digits, numberMost}
 use Rattle.digits.proofs.Lengths.{decimal-one, decimal-two, decimal-five}
-use Rattle.writing.specs.Writing.{lettered, lettered2, numbersOf, stepBytes, headerBytes}
+use Rattle.writing.specs.Writing.{lettered, lettered2, numbersOf, stepBytes, headerBytes, scriptHeader}
 use Rattle.writing.specs.Claims.{Small}
 
 lettered-most : (letter k : ℕ) → k ≤ numberMost → length (lettered letter k) ≤ lineMost
@@ -43,12 +42,9 @@ pub header-most :
     n .0 ≤ numberMost →
     length (headerBytes letter c n) ≤ lineMost
 header-most letter c n fine h =
-    let three = leb 1 (c .cores) && leb (c .cores) cores && leb 1 (c .first) in
-    let four = leb (c .first) perClass in
-    let five = leb (c .second) perClass in
-    let first = leb-true (c .first) perClass (and-right three four (and-left (three && four) five fine)) in
-    let second = leb-true (c .second) perClass (and-right (three && four) five fine) in
     let few = cores-few c fine in
+    let first = first-few c fine in
+    let second = second-few c fine in
     simp length-append
     (omega (
       arith,
@@ -59,6 +55,7 @@ header-most letter c n fine h =
     ))
 
 -- the bound is reached
-pub header-reached : length (headerBytes letterT (record { cores = cores; first = perClass; second = perClass }) (ticket numberMost)) ≡ lineMost
+pub header-reached :
+    length (scriptHeader (record { cores = cores; first = perClass; second = perClass; profile = T; fill = Blank }) (ticket numberMost)) ≡ lineMost
 unfolding digits
 header-reached = refl

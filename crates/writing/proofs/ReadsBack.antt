@@ -1,7 +1,7 @@
 -- Reading gives back what was written, in the middle of any other bytes. What is written holds no line end before its last byte and
 -- is no longer than the longest line, so the reader finds that end, and the bytes up to it are parsed number by number.
 use Prim.Native.Nat.{ℕ, zero, suc, _+_, _-_, _≤_, _<_}
-use mathlib.Core.Bool.{true, false, _&&_}
+use mathlib.Core.Bool.{true, false}
 use mathlib.Core.List.{List, [], _∷_, _++_, append-assoc, append-nil}
 use mathlib.Core.Path.{_≡_, refl, sym, _∙_, ap}
 use native.Mathlib.Nat.{not-suc-le-zero}
@@ -9,23 +9,26 @@ use native.Mathlib.Omega.{arith}
 use lib.Dec.{leb}
 use lib.ListN.{length, take, drop, length-append}
 use lib.Seq.{drop-append-seam, drop-drop, drop-append-add, take-append-seam}
-use borrow.Author.Tests.{ne-eqb, lt-leb, leb-true}
+use borrow.Author.Tests.{ne-eqb, lt-leb}
 use Rattle.ticket.specs.declared.kinds.Ticket.{Ticket}
-use Rattle.parts.proofs.Bools.{and-left, and-right}
+use Rattle.parts.proofs.Ranging.{counts-whole, cores-few, first-few, second-few}
 use Rattle.parts.specs.Range.{inRange, perClass}
 use Rattle.parts.specs.Parts.{cores}
 use Rattle.parts.specs.declared.kinds.Counts.{Counts}
+use Rattle.parts.specs.declared.kinds.Profile.{Profile}
+use Rattle.parts.specs.declared.kinds.Profile.the-variants.{T, D}
 use Rattle.parts.specs.declared.answer.Step.{Step}
 use Rattle.parts.specs.declared.answer.Step.the-variants.{R, N, P, I, C, L}
 use Rattle.numbers.specs.Bytes.{tab, end}
-use Rattle.lines.specs.Bytes.{lineMost, letterT}
+use Rattle.lines.specs.Bytes.{lineMost, scriptLetter}
 use Rattle.lines.proofs.Letters.{letterR, letterN, letterP, letterI, letterC, letterL}
 use Rattle.numbers.specs.Number.{decimal, numberMost, scan, field}
 use Rattle.lines.specs.Reading.{ending, lineEnd, oneNumber, twoNumbers, parseStep, stepLine, readStep}
-use Rattle.headers.specs.Header.{parseHeader, headerLine, readHeader}
+use Rattle.headers.specs.Header.{withCounter, withCores, withLetter, parseHeader, headerLine, readHeader}
 use Rattle.digits.specs.Text.{tabbed}
-use Rattle.writing.specs.Writing.{lettered, lettered2, numbersOf, stepBytes, headerBytes}
+use Rattle.writing.specs.Writing.{lettered, lettered2, numbersOf, stepBytes, scriptHeader}
 use Rattle.writing.specs.Claims.{Small}
+use Rattle.numbers.specs.declared.number.Field.{Field}
 use Rattle.numbers.specs.declared.number.Field.the-variants.{Last, Then}
 use Rattle.lines.specs.declared.reading.Ending.the-variants.{At}
 use Rattle.lines.specs.declared.reading.Parsed.the-variants.{Good}
@@ -158,24 +161,20 @@ read-step-written (L k) h pre post = one-written pre post letterL (k .0) (L k) (
 -- The header
 
 -- counts in range have two digits and one each
-counts-few : (c : Counts) → inRange c ≡ true → (c .cores ≤ cores) × (c .first ≤ perClass) × (c .second ≤ perClass)
-counts-few c good =
-    let a = leb 1 (c .cores) in
-    let b = leb (c .cores) cores in
-    let d = leb 1 (c .first) in
-    let f = leb (c .first) perClass in
-    let g = leb (c .second) perClass in
-    let four = and-left (a && b && d && f) g good in (
-      leb-true (c .cores) cores (and-right a b (and-left (a && b) d (and-left (a && b && d) f four))),
-      leb-true (c .first) perClass (and-right (a && b && d) f four),
-      leb-true (c .second) perClass (and-right (a && b && d && f) g good),
-    )
-
 two-digits : (m : ℕ) → m ≤ cores → length (decimal m) ≤ 2
 two-digits m h = digits-most 10 1 m (omega arith)
 
 one-digit : (m : ℕ) → m ≤ perClass → length (decimal m) ≤ 1
 one-digit m h = digits-most 10 0 m (omega arith)
+
+-- the letter is no line end, and gives its profile
+pub letter-plain : (p : Profile) → scriptLetter p ≡ end → ⊥
+letter-plain T e = omega arith
+letter-plain D e = omega arith
+
+letter-gives : (s : List ℕ) (p : Profile) (f : Field) → withLetter s (scriptLetter p) f ≡ withCores s p f
+letter-gives s T f = refl
+letter-gives s D f = refl
 
 module _ (c : Counts) (n : Ticket) where
   -- the header without its end, and what it holds after one number, after two, and after three
@@ -189,24 +188,23 @@ module _ (c : Counts) (n : Ticket) where
   firstly = tabbed (c .first) ++ secondly
 
   abbrev header : List ℕ
-  header = letterT ∷ (tabbed (c .cores) ++ firstly)
+  header = scriptLetter (c .profile) ∷ (tabbed (c .cores) ++ firstly)
 
-  header-whole : headerBytes letterT c n ≡ header ++ (end ∷ [])
+  header-whole : scriptHeader c n ≡ header ++ (end ∷ [])
   header-whole = simp append-assoc
 
   header-plain : Plain header
   header-plain =
       let after-two = plain-append (tabbed (c .second)) thirdly (plain-tabbed (c .second)) (plain-tabbed (n .0)) in
       let after-one = plain-append (tabbed (c .first)) secondly (plain-tabbed (c .first)) after-two in
-      ((λ e. omega arith), plain-append (tabbed (c .cores)) firstly (plain-tabbed (c .cores)) after-one)
+      (letter-plain (c .profile), plain-append (tabbed (c .cores)) firstly (plain-tabbed (c .cores)) after-one)
 
   module _ (good : inRange c ≡ true) (most : n .0 ≤ numberMost) where
     header-few : length header < lineMost
     header-few =
-        let w = counts-few c good in
-        let k = two-digits (c .cores) (w .0) in
-        let l = one-digit (c .first) (w .1) in
-        let m = one-digit (c .second) (w .2) in
+        let k = two-digits (c .cores) (cores-few c good) in
+        let l = one-digit (c .first) (first-few c good) in
+        let m = one-digit (c .second) (second-few c good) in
         let o = decimal-length (n .0) most in
         let p = length-append (decimal (c .cores)) firstly in
         let q = length-append (decimal (c .first)) secondly in
@@ -215,7 +213,9 @@ module _ (c : Counts) (n : Ticket) where
 
     header-parsed : parseHeader header ≡ GoodHeader c n
     header-parsed =
-        let w = counts-few c good in
+        let a = cores-few c good in
+        let b = first-few c good in
+        let d = second-few c good in
         let i : ℕ = 2 + length (decimal (c .cores)) + 1 in
         let j : ℕ = i + length (decimal (c .first)) + 1 in
         let k : ℕ = j + length (decimal (c .second)) + 1 in
@@ -223,14 +223,15 @@ module _ (c : Counts) (n : Ticket) where
         let two = field-then header i (c .first) (omega arith) (drop 1 secondly) (one .1) in
         let three = field-then header j (c .second) (omega arith) (drop 1 thirdly) (two .1) in
         let four = field-last header k (n .0) most (three .1) in
-        simp (one .0, two .0, three .0, four)
+        let by-numbers : withCores header (c .profile) (field header 2) ≡ withCounter (c .profile) (c .cores) (c .first) (c .second) (Last (n .0)) = simp (one .0, two .0, three .0, four) in
+        letter-gives header (c .profile) (field header 2) ∙ by-numbers ∙ ap (λ (x : Counts). GoodHeader x n) (counts-whole c)
 
 pub read-header-written :
     (c : Counts) (n : Ticket) →
     inRange c ≡ true →
     n .0 ≤ numberMost →
     (pre post : List ℕ) →
-    readHeader (pre ++ (headerBytes letterT c n ++ post)) (length pre) ≡ Header c n (length pre + length (headerBytes letterT c n))
+    readHeader (pre ++ (scriptHeader c n ++ post)) (length pre) ≡ Header c n (length pre + length (scriptHeader c n))
 read-header-written c n good most pre post =
-    header-line pre post (headerBytes letterT c n) (header c n) (header-whole c n) (header-plain c n) (header-few c n good most)
+    header-line pre post (scriptHeader c n) (header c n) (header-whole c n) (header-plain c n) (header-few c n good most)
     ∙ simp (header-parsed c n good most, good)

@@ -1,18 +1,18 @@
 -- A line is read exactly where its bytes stand: what is read is written so, and bytes that stand from a place on have others before and
 -- behind them, among which they are read back.
-use Prim.Native.Nat.{ℕ, _+_, _-_, _≤_, _<_}
+use Prim.Native.Nat.{ℕ, _+_, _-_, _<_}
 use mathlib.Core.List.{List, _++_}
 use mathlib.Core.Path.{_≡_, sym, _∙_, ap, ap₂}
 use native.Mathlib.Omega.{arith}
 use lib.ListN.{length, take, drop, length-append, length-drop, take-append-drop}
 use lib.Seq.{drop-drop, length-take-le}
-use Rattle.lines.specs.Bytes.{letterT}
+use Rattle.parts.proofs.Ranging.{none-second}
 use Rattle.lines.specs.Reading.{readStep}
 use Rattle.lines.specs.declared.reading.StepLine.the-variants.{Line}
 use Rattle.headers.specs.Header.{readHeader}
 use Rattle.headers.specs.declared.reading.HeaderLine.the-variants.{Header}
-use Rattle.writing.specs.Writing.{stepBytes, headerBytes}
-use Rattle.writing.specs.Claims.{Stands, StepAsWritten, HeaderAsWritten}
+use Rattle.writing.specs.Writing.{stepBytes, scriptHeader}
+use Rattle.writing.specs.Claims.{Stands, StepAsWritten, HeaderAsWritten, NoneSecondRead}
 use Rattle.writing.proofs.ReadsBack.{read-step-written, read-header-written}
 use Rattle.writing.proofs.AsWritten.{step-read-is-written, header-read-is-written}
 
@@ -54,5 +54,8 @@ step-as-written x s at next = (
 pub header-as-written : HeaderAsWritten
 header-as-written c n s at next = (
   λ e. let k = header-read-is-written s at c n next e in (k .0, (k .1, k .2)),
-  λ h. read-there s (headerBytes letterT c n) at next (h .0) (omega arith) readHeader (Header c n) (read-header-written c n (h .1 .0) (h .1 .1)),
+  λ h. read-there s (scriptHeader c n) at next (h .0) (omega arith) readHeader (Header c n) (read-header-written c n (h .1 .0) (h .1 .1)),
 )
+
+pub none-second-read : NoneSecondRead
+none-second-read s at c n next e d = none-second c (header-read-is-written s at c n next e .1) d

@@ -9,14 +9,14 @@ use lib.ListN.{length, take, drop}
 use Rattle.ticket.specs.declared.kinds.Ticket.{Ticket}
 use Rattle.parts.specs.Range.{inRange}
 use Rattle.parts.specs.declared.kinds.Counts.{Counts}
+use Rattle.parts.specs.declared.kinds.Profile.the-variants.{D}
 use Rattle.parts.specs.declared.answer.Step.{Step}
 use Rattle.numbers.specs.Number.{numberMost}
-use Rattle.lines.specs.Bytes.{letterT}
 use Rattle.lines.specs.Reading.{readStep}
 use Rattle.lines.specs.declared.reading.StepLine.the-variants.{Line}
 use Rattle.headers.specs.Header.{readHeader}
 use Rattle.headers.specs.declared.reading.HeaderLine.the-variants.{Header}
-use Rattle.writing.specs.Writing.{numbersOf, stepBytes, headerBytes}
+use Rattle.writing.specs.Writing.{numbersOf, stepBytes, scriptHeader}
 
 -- numbers that a line can hold
 abbrev pub Small : List ℕ → Type 0
@@ -36,4 +36,9 @@ StepAsWritten = (x : Step) → ReadAsWritten readStep (Line x) (stepBytes x) (Sm
 
 abbrev pub HeaderAsWritten : Type 0
 HeaderAsWritten =
-    (c : Counts) (n : Ticket) → ReadAsWritten readHeader (Header c n) (headerBytes letterT c n) ((inRange c ≡ true) × (n .0 ≤ numberMost))
+    (c : Counts) (n : Ticket) → ReadAsWritten readHeader (Header c n) (scriptHeader c n) ((inRange c ≡ true) × (n .0 ≤ numberMost))
+
+-- "20 for `D` with second-class units": a header of D that is read has none
+abbrev pub NoneSecondRead : Type 0
+NoneSecondRead =
+    (s : List ℕ) (at : ℕ) (c : Counts) (n : Ticket) (next : ℕ) → readHeader s at ≡ Header c n next → c .profile ≡ D → c .second ≡ 0

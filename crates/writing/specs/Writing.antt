@@ -1,5 +1,5 @@
 -- Script lines and the output's first line as they are written, whole, into lent bytes at a place. "Writing one gives 20 for a header
--- out of range, then 23." "Output opens with `E` and the header's four numbers."
+-- out of range, then 23." "Output opens with `E` and the header's four numbers." In the dequeueing profile the letters are `D` and `F`.
 use Prim.Native.Nat.{ℕ}
 use mathlib.Core.Bool.{cond}
 use mathlib.Core.List.{List, [], _∷_, _++_}
@@ -9,7 +9,7 @@ use Rattle.parts.specs.declared.kinds.Counts.{Counts}
 use Rattle.parts.specs.declared.answer.Step.{Step}
 use Rattle.parts.specs.declared.answer.Step.the-variants.{R, N, P, I, C, L}
 use Rattle.numbers.specs.Bytes.{end}
-use Rattle.lines.specs.Bytes.{letterOf}
+use Rattle.lines.specs.Bytes.{scriptLetter, outputLetter, letterOf}
 use Rattle.digits.specs.Text.{tabbed}
 use Rattle.digits.specs.Room.{wrote, left}
 use Rattle.digits.specs.declared.room.Written.{Written}
@@ -28,9 +28,16 @@ numbersOf s =
 abbrev pub stepBytes : Step → List ℕ
 stepBytes s = letterOf s ∷ fields (numbersOf s)
 
--- the header with its letter, T in a script and E in the output
+-- the header with its letter
 abbrev pub headerBytes : ℕ → Counts → Ticket → List ℕ
 headerBytes letter c n = letter ∷ fields (c .cores ∷ c .first ∷ c .second ∷ n .0 ∷ [])
+
+-- as a script has it, and as the output opens with it
+abbrev pub scriptHeader : Counts → Ticket → List ℕ
+scriptHeader c n = headerBytes (scriptLetter (c .profile)) c n
+
+abbrev pub outputHeader : Counts → Ticket → List ℕ
+outputHeader c n = headerBytes (outputLetter (c .profile)) c n
 
 -- the header: 20 before 23
 abbrev pub wroteHeader : List ℕ → ℕ → ℕ → Counts → Ticket → Written

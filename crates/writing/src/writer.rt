@@ -6,6 +6,7 @@ use digits::has_room;
 use digits::put_tabbed;
 use digits::tabbed_width;
 use parts::Counts;
+use parts::Profile;
 use parts::Step;
 use parts::in_range;
 use ticket::CoreNo;
@@ -16,10 +17,10 @@ ghost use mathlib.Core.Bool.{true};
 ghost use Prim.Native.Nat.{_+_, _≤_};
 ghost use lib.ListN.{length};
 ghost use Rattle.parts.specs.Range.{inRange};
-ghost use Rattle.lines.specs.Bytes.{letterT, letterE};
+ghost use Rattle.lines.specs.Bytes.{scriptLetter, outputLetter};
 ghost use Rattle.digits.specs.Text.{Puts};
 ghost use Rattle.digits.specs.Room.{wrote, left, writtenNumber, writeNumber};
-ghost use Rattle.writing.specs.Writing.{lettered, lettered2, stepBytes, headerBytes, wroteHeader, leftHeader};
+ghost use Rattle.writing.specs.Writing.{lettered, lettered2, stepBytes, headerBytes, scriptHeader, outputHeader, wroteHeader, leftHeader};
 
 // The line of a letter and one number, where there is room.
 fn put_lettered(out: &mut [u8], at: usize, letter: u8, k: CoreNo) -> usize
@@ -68,7 +69,7 @@ fn write_lettered2(out: &mut [u8], at: usize, letter: u8, k: CoreNo, u: UnitNo) 
 
 // How many bytes a header is.
 fn header_width(counts: Counts, counter: Ticket) -> usize
-    ensures { λ r. ⌜ r ≡ length (headerBytes letterT counts counter) ⌝ }
+    ensures { λ r. ⌜ r ≡ length (scriptHeader counts counter) ⌝ }
 {
     let units = tabbed_width(counts.first) + tabbed_width(counts.second);
     tabbed_width(counts.cores) + units + tabbed_width(counter.0) + 2
@@ -102,18 +103,40 @@ fn write_headed(out: &mut [u8], at: usize, letter: u8, counts: Counts, counter: 
     }
 }
 
+// The letter that a script opens with, by its profile.
+fn script_letter(p: Profile) -> u8
+    ensures { λ r. ⌜ r ≡ scriptLetter p ⌝ }
+{
+    match p {
+        Profile::T => b'T',
+        Profile::D => b'D',
+    }
+}
+
+// The letter that the output opens with, by the profile.
+fn output_letter(p: Profile) -> u8
+    ensures { λ r. ⌜ r ≡ outputLetter p ⌝ }
+{
+    match p {
+        Profile::T => b'E',
+        Profile::D => b'F',
+    }
+}
+
 // A script's first line.
 pub fn write_header(out: &mut [u8], at: usize, counts: Counts, counter: Ticket) -> Written
-    ensures { λ r. ⌜ (r ≡ wroteHeader (now (out .entry)) at letterT counts counter) × (now (out .exit) ≡ leftHeader (now (out .entry)) at letterT counts counter) × (writtenNumber r ≡ writeNumber (inRange counts) (now (out .entry)) at (headerBytes letterT counts counter)) ⌝ }
+    ensures { λ r. ⌜ (r ≡ wroteHeader (now (out .entry)) at (scriptLetter (counts .profile)) counts counter) × (now (out .exit) ≡ leftHeader (now (out .entry)) at (scriptLetter (counts .profile)) counts counter) × (writtenNumber r ≡ writeNumber (inRange counts) (now (out .entry)) at (scriptHeader counts counter)) ⌝ }
 {
-    write_headed(out, at, b'T', counts, counter)
+    let p = counts.profile;
+    write_headed(out, at, script_letter(p), counts, counter)
 }
 
 // The output's first line.
 pub fn write_opening(out: &mut [u8], at: usize, counts: Counts, counter: Ticket) -> Written
-    ensures { λ r. ⌜ (r ≡ wroteHeader (now (out .entry)) at letterE counts counter) × (now (out .exit) ≡ leftHeader (now (out .entry)) at letterE counts counter) × (writtenNumber r ≡ writeNumber (inRange counts) (now (out .entry)) at (headerBytes letterE counts counter)) ⌝ }
+    ensures { λ r. ⌜ (r ≡ wroteHeader (now (out .entry)) at (outputLetter (counts .profile)) counts counter) × (now (out .exit) ≡ leftHeader (now (out .entry)) at (outputLetter (counts .profile)) counts counter) × (writtenNumber r ≡ writeNumber (inRange counts) (now (out .entry)) at (outputHeader counts counter)) ⌝ }
 {
-    write_headed(out, at, b'E', counts, counter)
+    let p = counts.profile;
+    write_headed(out, at, output_letter(p), counts, counter)
 }
 
 // A step line of a script.

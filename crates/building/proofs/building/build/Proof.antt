@@ -5,7 +5,7 @@ use mathlib.Core.Path.{_≡_, sym, _∙_}
 use Rattle.ticket.specs.Kinds.{ticket}
 use Rattle.ticket.specs.declared.kinds.Ticket.{Ticket}
 use Rattle.parts.specs.Range.{inRange}
-use Rattle.building.specs.Build.{fresh, build}
+use Rattle.building.specs.Build.{fresh, least, build}
 use Rattle.parts.specs.declared.kinds.Counts.{Counts}
 use Rattle.block.specs.declared.table.Table.{Table}
 use Rattle.parts.specs.declared.answer.Answer.the-variants.{Done, OutOfRange}
@@ -19,7 +19,7 @@ module _ (c : Counts) (n : Ticket) (b : Bool) (t : Table) (says : b ≡ inRange 
 
   outside :
       b ≡ false →
-      t ≡ fresh (record { cores = 1; first = 1; second = 0 }) (ticket 0) →
+      t ≡ fresh (least) (ticket 0) →
       _≡_ {A = Built} (record { table = t; answer = OutOfRange }) (build c n)
   outside e so = rw (sym says ∙ e, so)
 

@@ -4,6 +4,7 @@ use mathlib.Core.Bool.{Bool}
 use mathlib.Core.Path.{_≡_, sym, _∙_, ap}
 use Rattle.ticket.specs.declared.kinds.Ticket.{Ticket}
 use Rattle.parts.specs.declared.kinds.Core.{Core}
+use Rattle.parts.specs.declared.kinds.Profile.{Profile}
 use Rattle.parts.specs.declared.answer.Step.{Step}
 use Rattle.settling.specs.declared.line.Best.{Best}
 use Rattle.effects.specs.Effect.{stepEffect}
@@ -12,11 +13,11 @@ use Rattle.effects.proofs.steps.step_effect.Statement.{statement}
 use Rattle.effects.proofs.steps.step_effect.Tie as tie
 
 by-letter :
-    (m : Ticket) (c : Core) (flag : Bool) (b : Best) (s s' : Step) (e : Effect) →
+    (p : Profile) (m : Ticket) (c : Core) (flag : Bool) (b : Best) (s s' : Step) (e : Effect) →
     s ≡ s' →
-    e ≡ stepEffect s' m c flag b →
-    e ≡ stepEffect s m c flag b
-by-letter m c flag b s s' e is so = so ∙ ap (λ (z : Step). stepEffect z m c flag b) (sym is)
+    e ≡ stepEffect p s' m c flag b →
+    e ≡ stepEffect p s m c flag b
+by-letter p m c flag b s s' e is so = so ∙ ap (λ (z : Step). stepEffect p z m c flag b) (sym is)
 
 enum-known-s : tie.Need-enum-known-s
 enum-known-s c = search needs
@@ -57,32 +58,32 @@ release-requires c κs = search needs
 returns : tie.Need-returns
 returns c =
     let a = c .before .before .before .before .args in
-    by-letter (a .counter) (a .c) (a .flag) (a .b) (a .s) _ _ (c .before .before .s .given .1) (c .request .ensures)
+    by-letter (a .p) (a .counter) (a .c) (a .flag) (a .b) (a .s) _ _ (c .before .before .s .given .1) (c .request .ensures)
 
 returns-2 : tie.Need-returns-2
 returns-2 c =
     let a = c .before .before .before .before .args in
-    by-letter (a .counter) (a .c) (a .flag) (a .b) (a .s) _ _ (c .before .before .s2 .given .1) (c .nest .ensures)
+    by-letter (a .p) (a .counter) (a .c) (a .flag) (a .b) (a .s) _ _ (c .before .before .s2 .given .1) (c .nest .ensures)
 
 returns-3 : tie.Need-returns-3
 returns-3 c =
     let a = c .before .before .before .args in
-    by-letter (a .counter) (a .c) (a .flag) (a .b) (a .s) _ _ (c .before .enum-told .given .1) (c .poll .ensures)
+    by-letter (a .p) (a .counter) (a .c) (a .flag) (a .b) (a .s) _ _ (c .before .enum-told .given .1) (c .poll .ensures)
 
 returns-4 : tie.Need-returns-4
 returns-4 c =
     let a = c .before .before .before .args in
-    by-letter (a .counter) (a .c) (a .flag) (a .b) (a .s) _ _ (c .before .enum-told2 .given .1) (c .interrupt .ensures)
+    by-letter (a .p) (a .counter) (a .c) (a .flag) (a .b) (a .s) _ _ (c .before .enum-told2 .given .1) (c .interrupt .ensures)
 
 returns-5 : tie.Need-returns-5
 returns-5 c =
     let a = c .before .before .before .args in
-    by-letter (a .counter) (a .c) (a .flag) (a .b) (a .s) _ _ (c .before .enum-told3 .given .1) (c .come-back .ensures)
+    by-letter (a .p) (a .counter) (a .c) (a .flag) (a .b) (a .s) _ _ (c .before .enum-told3 .given .1) (c .come-back .ensures)
 
 returns-6 : tie.Need-returns-6
 returns-6 c =
     let a = c .before .before .before .args in
-    by-letter (a .counter) (a .c) (a .flag) (a .b) (a .s) _ _ (c .before .enum-told4 .given .1) (c .release .ensures)
+    by-letter (a .p) (a .counter) (a .c) (a .flag) (a .b) (a .s) _ _ (c .before .enum-told4 .given .1) (c .release .ensures)
 
 pub step-effect-spec : {M : Type 1} → statement M
 step-effect-spec =

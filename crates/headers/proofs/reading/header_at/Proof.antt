@@ -43,8 +43,8 @@ enum-known-c c = search needs
 in-range-requires : tie.Need-in-range-requires
 in-range-requires c κs = search needs
 
-add-t14 : tie.Need-add-t14
-add-t14 c = search needs
+add-next : tie.Need-add-next
+add-next c = search needs
 
 enum-told : tie.Need-enum-told
 enum-told c = search needs
@@ -68,7 +68,7 @@ header-at-spec =
     parse-header-requires
     enum-known-c
     in-range-requires
-    add-t14
+    add-next
     enum-told
     returns
     returns-2

@@ -4,6 +4,7 @@ use mathlib.Core.List.{List}
 use mathlib.Core.Path.{_≡_, sym, _∙_, ap}
 use borrow.Author.Needs.{needs}
 use Rattle.numbers.specs.Number.{field}
+use Rattle.parts.specs.declared.kinds.Profile.{Profile}
 use Rattle.headers.specs.Header.{withFirst, withCores}
 use Rattle.numbers.specs.declared.number.Field.{Field}
 use Rattle.numbers.specs.declared.number.Field.the-variants.{Then}
@@ -12,12 +13,12 @@ use Rattle.headers.proofs.reading.with_cores.Statement.{statement}
 use Rattle.headers.proofs.reading.with_cores.Tie as tie
 
 further :
-    (s : List ℕ) (x i : ℕ) (f g : Field) (w : ParsedHeader) →
+    (s : List ℕ) (p : Profile) (x i : ℕ) (f g : Field) (w : ParsedHeader) →
     f ≡ Then x i →
     g ≡ field s i →
-    w ≡ withFirst s x g →
-    w ≡ withCores s f
-further s x i f g w e read is = is ∙ ap (withFirst s x) read ∙ ap (withCores s) (sym e)
+    w ≡ withFirst s p x g →
+    w ≡ withCores s p f
+further s p x i f g w e read is = is ∙ ap (withFirst s p x) read ∙ ap (withCores s p) (sym e)
 
 enum-told : tie.Need-enum-told
 enum-told c = search needs

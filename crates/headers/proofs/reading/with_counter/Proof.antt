@@ -3,6 +3,8 @@ use Prim.Native.Nat.{ℕ}
 use mathlib.Core.Path.{_≡_, sym, ap}
 use borrow.Author.Needs.{needs}
 use Rattle.ticket.specs.Kinds.{ticket}
+use Rattle.parts.specs.declared.kinds.Fill.the-variants.{Blank}
+use Rattle.parts.specs.declared.kinds.Profile.{Profile}
 use Rattle.headers.specs.Header.{withCounter}
 use Rattle.numbers.specs.declared.number.Field.{Field}
 use Rattle.numbers.specs.declared.number.Field.the-variants.{Last}
@@ -10,8 +12,11 @@ use Rattle.headers.specs.declared.reading.ParsedHeader.the-variants.{Goo
 use Rattle.headers.proofs.reading.with_counter.Statement.{statement}
 use Rattle.headers.proofs.reading.with_counter.Tie as tie
 
-last : (a b c n : ℕ) (f : Field) → f ≡ Last n → Good (record { cores = a; first = b; second = c }) (ticket n) ≡ withCounter a b c f
-last a b c n f e = ap (withCounter a b c) (sym e)
+last :
+    (p : Profile) (a b c n : ℕ) (f : Field) →
+    f ≡ Last n →
+    Good (record { cores = a; first = b; second = c; profile = p; fill = Blank }) (ticket n) ≡ withCounter p a b c f
+last p a b c n f e = ap (withCounter p a b c) (sym e)
 
 enum-told : tie.Need-enum-told
 enum-told c = search needs

@@ -4,6 +4,7 @@ use mathlib.Core.List.{List}
 use mathlib.Core.Path.{_≡_, sym, _∙_, ap}
 use borrow.Author.Needs.{needs}
 use Rattle.numbers.specs.Number.{field}
+use Rattle.parts.specs.declared.kinds.Profile.{Profile}
 use Rattle.headers.specs.Header.{withSecond, withFirst}
 use Rattle.numbers.specs.declared.number.Field.{Field}
 use Rattle.numbers.specs.declared.number.Field.the-variants.{Then}
@@ -12,12 +13,12 @@ use Rattle.headers.proofs.reading.with_first.Statement.{statement}
 use Rattle.headers.proofs.reading.with_first.Tie as tie
 
 further :
-    (s : List ℕ) (a x i : ℕ) (f g : Field) (w : ParsedHeader) →
+    (s : List ℕ) (p : Profile) (a x i : ℕ) (f g : Field) (w : ParsedHeader) →
     f ≡ Then x i →
     g ≡ field s i →
-    w ≡ withSecond s a x g →
-    w ≡ withFirst s a f
-further s a x i f g w e read is = is ∙ ap (withSecond s a x) read ∙ ap (withFirst s a) (sym e)
+    w ≡ withSecond s p a x g →
+    w ≡ withFirst s p a f
+further s p a x i f g w e read is = is ∙ ap (withSecond s p a x) read ∙ ap (withFirst s p a) (sym e)
 
 enum-told : tie.Need-enum-told
 enum-told c = search needs

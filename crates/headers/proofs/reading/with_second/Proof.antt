@@ -4,6 +4,7 @@ use mathlib.Core.List.{List}
 use mathlib.Core.Path.{_≡_, sym, _∙_, ap}
 use borrow.Author.Needs.{needs}
 use Rattle.numbers.specs.Number.{field}
+use Rattle.parts.specs.declared.kinds.Profile.{Profile}
 use Rattle.headers.specs.Header.{withCounter, withSecond}
 use Rattle.numbers.specs.declared.number.Field.{Field}
 use Rattle.numbers.specs.declared.number.Field.the-variants.{Then}
@@ -12,12 +13,12 @@ use Rattle.headers.proofs.reading.with_second.Statement.{statement}
 use Rattle.headers.proofs.reading.with_second.Tie as tie
 
 further :
-    (s : List ℕ) (a b x i : ℕ) (f g : Field) (w : ParsedHeader) →
+    (s : List ℕ) (p : Profile) (a b x i : ℕ) (f g : Field) (w : ParsedHeader) →
     f ≡ Then x i →
     g ≡ field s i →
-    w ≡ withCounter a b x g →
-    w ≡ withSecond s a b f
-further s a b x i f g w e read is = is ∙ ap (withCounter a b x) read ∙ ap (withSecond s a b) (sym e)
+    w ≡ withCounter p a b x g →
+    w ≡ withSecond s p a b f
+further s p a b x i f g w e read is = is ∙ ap (withCounter p a b x) read ∙ ap (withSecond s p a b) (sym e)
 
 enum-told : tie.Need-enum-told
 enum-told c = search needs

@@ -9,8 +9,11 @@ is-idle-requires c κs = search needs
 is-away-requires : tie.Need-is-away-requires
 is-away-requires c κs = search needs
 
+is-marked-requires : tie.Need-is-marked-requires
+is-marked-requires c κs = search needs
+
 returns : tie.Need-returns
 returns c = cc
 
 pub stands-spec : {M : Type 1} → statement M
-stands-spec = tie.close (tie.spec is-idle-requires is-away-requires returns)
+stands-spec = tie.close (tie.spec is-idle-requires is-away-requires is-marked-requires returns)

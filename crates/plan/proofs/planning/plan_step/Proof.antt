@@ -19,11 +19,8 @@ enum-told c = search needs
 core-place-requires : tie.Need-core-place-requires
 core-place-requires c κs = search needs
 
-stored-requires : tie.Need-stored-requires
-stored-requires c κs = search needs
-
-step-effect-requires : tie.Need-step-effect-requires
-step-effect-requires c κs = search needs
+effect-of-requires : tie.Need-effect-of-requires
+effect-of-requires c κs = search needs
 
 carry-out-requires : tie.Need-carry-out-requires
 carry-out-requires c κs = search needs
@@ -43,8 +40,7 @@ plan-step-spec =
     refuse-requires
     enum-told
     core-place-requires
-    stored-requires
-    step-effect-requires
+    effect-of-requires
     carry-out-requires
     returns
     returns-2)

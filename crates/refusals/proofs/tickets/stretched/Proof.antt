@@ -1,39 +1,34 @@
--- `refusals::tickets::stretched` meets its contract: none of the first k tickets is live and old, until one is.
+-- `refusals::tickets::stretched` meets its contract: `any` is whether one of the first k tickets is live and old.
 use borrow.Author.Needs.{needs}
-use Prim.Native.Nat.{ℕ, _+_, _≤_, _<_, _-_}
-use mathlib.Core.Bool.{Bool, true, false, _&&_}
+use Prim.Native.Nat.{ℕ, _+_, _≤_, _-_}
+use mathlib.Core.Bool.{Bool, false, _&&_, _||_}
 use mathlib.Core.List.{List}
-use mathlib.Core.Path.{_≡_, sym, _∙_, ap}
+use mathlib.Core.Path.{_≡_, _∙_, ap}
 use lib.ListN.{length, getD}
 use Rattle.ticket.specs.Order.{compare}
 use Rattle.ticket.specs.declared.kinds.Ticket.{Ticket}
 use Rattle.ticket.specs.declared.order.Comparison.{Comparison}
-use Rattle.parts.proofs.Folds.{none, finished, at-some}
+use Rattle.parts.proofs.Folds.{none, finished}
 use Rattle.parts.proofs.Loops.{some-more}
 use Rattle.refusals.specs.Judge.{far}
 use Rattle.refusals.specs.Tickets.{oldAt, stretchedBy}
 use Rattle.refusals.proofs.tickets.stretched.Statement.{statement}
 use Rattle.refusals.proofs.tickets.stretched.Tie as tie
 
-module _
-    (m : Ticket) (ls : List Bool) (os : List ℕ) (k : ℕ) (x : Comparison) (b : Bool)
-    (says : x ≡ compare (getD os k 0) (m .0))
-    (so : b ≡ far x)
-  where
-    test : (getD ls k false && b) ≡ oldAt m ls os k
-    test = ap (λ (b : Bool). getD ls k false && b) (so ∙ ap far says)
-
-    found : (n : ℕ) → k < n → (getD ls k false && b) ≡ true → true ≡ stretchedBy m ls os n
-    found n h e = sym (at-some (oldAt m ls os) n k h (sym test ∙ e))
-
-    passed : false ≡ stretchedBy m ls os k → (getD ls k false && b) ≡ false → false ≡ stretchedBy m ls os (k + 1)
-    passed none-so e = sym e ∙ some-more (oldAt m ls os) k false (getD ls k false && b) none-so test
+one-more :
+    (m : Ticket) (ls : List Bool) (os : List ℕ) (k : ℕ) (x : Comparison) (b any : Bool) →
+    x ≡ compare (getD os k 0) (m .0) →
+    b ≡ far x →
+    any ≡ stretchedBy m ls os k →
+    (any || (getD ls k false && b)) ≡ stretchedBy m ls os (k + 1)
+one-more m ls os k x b any says is so =
+    some-more (oldAt m ls os) k any (getD ls k false && b) so (ap (λ (b : Bool). getD ls k false && b) (is ∙ ap far says))
 
 abbrev Inv-loop : tie.InvT-loop
-Inv-loop n counter lives owns k₀ k = (n ≤ length lives) × (n ≤ length owns) × (k ≤ n) × (false ≡ stretchedBy counter lives owns k)
+Inv-loop n counter lives owns any₀ k₀ any k = (n ≤ length lives) × (n ≤ length owns) × (k ≤ n) × (any ≡ stretchedBy counter lives owns k)
 
 abbrev μ-loop : tie.MeasureT-loop
-μ-loop n counter lives owns k₀ k = n - k
+μ-loop n counter lives owns any₀ k₀ any k = n - k
 
 loop-holds : tie.Need-loop-holds Inv-loop μ-loop
 loop-holds c = search (none, needs)
@@ -53,9 +48,6 @@ compare-requires c κs = search needs
 far-requires : tie.Need-far-requires Inv-loop μ-loop
 far-requires c κs = search needs
 
-returns : tie.Need-returns Inv-loop μ-loop
-returns c = search (found, needs)
-
 add-k : tie.Need-add-k Inv-loop μ-loop
 add-k c = search needs
 
@@ -63,10 +55,10 @@ loop-less : tie.Need-loop-less Inv-loop μ-loop
 loop-less c = search needs
 
 loop-again : tie.Need-loop-again Inv-loop μ-loop
-loop-again c = search (passed, needs)
+loop-again c = search (one-more, needs)
 
-returns-2 : tie.Need-returns-2 Inv-loop μ-loop
-returns-2 c = search (finished, needs)
+returns : tie.Need-returns Inv-loop μ-loop
+returns c = search (finished, needs)
 
 pub stretched-spec : {M : Type 1} → statement M
 stretched-spec =
@@ -80,8 +72,7 @@ stretched-spec =
     shared-slice-read-own
     compare-requires
     far-requires
-    returns
     add-k
     loop-less
     loop-again
-    returns-2)
+    returns)

@@ -48,11 +48,8 @@ may-interrupt-requires c κs = search needs
 enum-known-s-5 : tie.Need-enum-known-s-5
 enum-known-s-5 c = search needs
 
-is-away-requires : tie.Need-is-away-requires
-is-away-requires c κs = search needs
-
-in-state-requires-2 : tie.Need-in-state-requires-2
-in-state-requires-2 c κs = search needs
+may-come-back-requires : tie.Need-may-come-back-requires
+may-come-back-requires c κs = search needs
 
 enum-known-s-6 : tie.Need-enum-known-s-6
 enum-known-s-6 c = search needs
@@ -60,8 +57,8 @@ enum-known-s-6 c = search needs
 holds-requires : tie.Need-holds-requires
 holds-requires c κs = search needs
 
-in-state-requires-3 : tie.Need-in-state-requires-3
-in-state-requires-3 c κs = search needs
+in-state-requires-2 : tie.Need-in-state-requires-2
+in-state-requires-2 c κs = search needs
 
 returns : tie.Need-returns
 returns c =
@@ -85,13 +82,13 @@ returns-4 c =
 
 returns-5 : tie.Need-returns-5
 returns-5 c =
-    let b = c .before .before .before .before .before .before .args in
-    by-letter (b .s) _ (b .counts) (b .late) (b .c) _ (c .before .before .before .s5 .given .1) (stated (b .counts) _ _ _ _ (c .before .is-away .ensures) (c .in-state2 .ensures))
+    let b = c .before .before .before .before .before .args in
+    by-letter (b .s) _ (b .counts) (b .late) (b .c) _ (c .before .before .s5 .given .1) (c .may-come-back .ensures)
 
 returns-6 : tie.Need-returns-6
 returns-6 c =
     let b = c .before .before .before .before .before .before .args in
-    by-letter (b .s) _ (b .counts) (b .late) (b .c) _ (c .before .before .before .s6 .given .1) (stated (b .counts) _ _ _ _ (c .before .holds .ensures) (c .in-state3 .ensures))
+    by-letter (b .s) _ (b .counts) (b .late) (b .c) _ (c .before .before .before .s6 .given .1) (stated (b .counts) _ _ _ _ (c .before .holds .ensures) (c .in-state2 .ensures))
 
 pub judge-spec : {M : Type 1} → statement M
 judge-spec =
@@ -107,11 +104,10 @@ judge-spec =
     enum-known-s-4
     may-interrupt-requires
     enum-known-s-5
-    is-away-requires
-    in-state-requires-2
+    may-come-back-requires
     enum-known-s-6
     holds-requires
-    in-state-requires-3
+    in-state-requires-2
     returns
     returns-2
     returns-3

@@ -17,8 +17,14 @@ array-copy-out-c c = search needs
 within-requires : tie.Need-within-requires
 within-requires c κs = search needs
 
+suited-requires : tie.Need-suited-requires
+suited-requires c κs = search needs
+
 idle-blank-requires : tie.Need-idle-blank-requires
 idle-blank-requires c κs = search needs
+
+dropped-blank-requires : tie.Need-dropped-blank-requires
+dropped-blank-requires c κs = search needs
 
 named-requires : tie.Need-named-requires
 named-requires c κs = search needs
@@ -34,7 +40,7 @@ carries-requires c κs = search needs
 
 returns : tie.Need-returns
 unfolding coreSound
-returns c = search (both, needs)
+returns c = search (both, needs) depth 9
 
 pub core-sound-spec : {M : Type 1} → statement M
 core-sound-spec =
@@ -44,7 +50,9 @@ core-sound-spec =
     mul-c
     array-copy-out-c
     within-requires
+    suited-requires
     idle-blank-requires
+    dropped-blank-requires
     named-requires
     recent-requires
     apart-requires

@@ -2,10 +2,10 @@
 use borrow.Author.Needs.{needs}
 use Prim.Native.Nat.{ℕ}
 use mathlib.Core.Bool.{Bool, true, false, _&&_}
-use mathlib.Core.Path.{_≡_, sym, _∙_, ap}
+use mathlib.Core.Path.{_≡_, sym, _∙_, ap, ap₂}
 use lib.Dec.{eqb}
 use Rattle.parts.specs.State.{stands, holdsFirst, holdsBoth, twoStage}
-use Rattle.soundness.specs.Agreement.{isBlank, shows, agrees}
+use Rattle.soundness.specs.Agreement.{isBlank, flagless, shows, agrees}
 use Rattle.parts.specs.declared.kinds.Core.{Core}
 use Rattle.parts.specs.declared.kinds.Register.{Register}
 use Rattle.soundness.proofs.units.agrees.Statement.{statement}
@@ -16,8 +16,13 @@ module _ (c : Core) (u : ℕ) (r : Register) (a z : Bool) (says : a ≡ stands (
   here b e = ap (λ (x : Bool). x && eqb u (c .first .0)) (sym says) ∙ e
 
   at-first :
-      (h : Bool) → (a && eqb u (c .first .0)) ≡ true → h ≡ holdsFirst (c .state) → z ≡ shows r (c .own) h → z ≡ agrees c u r
-  at-first h e holds shown = rw (here true e) (shown ∙ ap (shows r (c .own)) holds)
+      (h f : Bool) →
+      (a && eqb u (c .first .0)) ≡ true →
+      f ≡ flagless (c .state) r →
+      h ≡ holdsFirst (c .state) →
+      z ≡ shows r (c .own) h →
+      (f && z) ≡ agrees c u r
+  at-first h f e clear holds shown = rw (here true e) (ap₂ _&&_ clear (shown ∙ ap (shows r (c .own)) holds))
 
   module _ (d : Bool) (past : (a && eqb u (c .first .0)) ≡ false) (says-two : d ≡ twoStage (c .state)) where
     there : (b : Bool) → (d && eqb u (c .second .0)) ≡ b → (twoStage (c .state) && eqb u (c .second .0)) ≡ b
@@ -32,6 +37,9 @@ module _ (c : Core) (u : ℕ) (r : Register) (a z : Bool) (says : a ≡ stands (
 
 stands-requires : tie.Need-stands-requires
 stands-requires c κs = search needs
+
+flagless-requires : tie.Need-flagless-requires
+flagless-requires c κs = search needs
 
 holds-first-requires : tie.Need-holds-first-requires
 holds-first-requires c κs = search needs
@@ -65,6 +73,7 @@ agrees-spec =
     tie.close
     (tie.spec
     stands-requires
+    flagless-requires
     holds-first-requires
     shows-requires
     two-stage-requires

@@ -6,9 +6,8 @@ use native.Mathlib.Omega.{arith}
 use lib.ListN.{length, length-append}
 use Rattle.ticket.specs.declared.kinds.Ticket.{Ticket}
 use Rattle.parts.specs.declared.kinds.Counts.{Counts}
-use Rattle.lines.specs.Bytes.{letterT}
 use Rattle.digits.specs.Text.{tabbed}
-use Rattle.writing.specs.Writing.{headerBytes}
+use Rattle.writing.specs.Writing.{scriptHeader}
 use Rattle.writing.proofs.writer.header_width.Statement.{statement}
 use Rattle.writing.proofs.writer.header_width.Tie as tie
 
@@ -18,7 +17,7 @@ wide :
     (v ≡ length (tabbed (c .second))) × (v ≤ 6) →
     (w ≡ length (tabbed (c .cores))) × (w ≤ 6) →
     (x ≡ length (tabbed (n .0))) × (x ≤ 6) →
-    w + (u + v) + x + 2 ≡ length (headerBytes letterT c n)
+    w + (u + v) + x + 2 ≡ length (scriptHeader c n)
 wide c n u v w x a b d e = simp length-append (omega (arith, a .0, b .0, d .0, e .0))
 
 tabbed-width-requires : tie.Need-tabbed-width-requires

@@ -11,9 +11,8 @@ use Rattle.ticket.specs.declared.kinds.Ticket.{Ticket}
 use Rattle.parts.proofs.Bools.{not-true-false}
 use Rattle.parts.specs.Range.{inRange}
 use Rattle.parts.specs.declared.kinds.Counts.{Counts}
-use Rattle.lines.specs.Bytes.{letterT}
 use Rattle.digits.specs.Text.{Puts}
-use Rattle.writing.specs.Writing.{headerBytes, wroteHeader, leftHeader}
+use Rattle.writing.specs.Writing.{headerBytes, scriptHeader, wroteHeader, leftHeader}
 use Rattle.digits.specs.declared.room.Written.the-variants.{Next, OutOfRange, NoRoom}
 use Rattle.digits.proofs.Pasting.{written, roomy, refused}
 use Rattle.writing.proofs.writer.write_headed.Statement.{statement}
@@ -32,7 +31,7 @@ module _ (o : List ℕ) (at letter : ℕ) (c : Counts) (n : Ticket) (t : Bool) (
     put m q a = rw (sym asked ∙ inside) (written a)
 
     -- the letter does not tell in the length
-    module _ (b : Bool) (w : ℕ) (wide : w ≡ length (headerBytes letterT c n)) (says : b ≡ leb (at + w) (length o)) where
+    module _ (b : Bool) (w : ℕ) (wide : w ≡ length (scriptHeader c n)) (says : b ≡ leb (at + w) (length o)) where
       exact : b ≡ leb (at + length (headerBytes letter c n)) (length o)
       exact = says ∙ ap (λ (k : ℕ). leb (at + k) (length o)) wide
 

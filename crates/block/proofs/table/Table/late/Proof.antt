@@ -22,7 +22,7 @@ late-for-requires c κs = search needs
 returns : tie.Need-returns
 returns c =
     let a = c .before .before .before .before .before .before .before .before .args in
-    late-in (a .self) (a .s) _ _ _ (c .before .before .before .before .lives-of .ensures) (c .before .before .before .owns-of .ensures) (c .late-for .ensures)
+    late-in (a .self) (a .s) (a .c) _ _ _ (c .before .before .before .before .lives-of .ensures) (c .before .before .before .owns-of .ensures) (c .late-for .ensures)
 
 pub late-spec : {M : Type 1} → statement M
 late-spec =
