@@ -1,6 +1,8 @@
 #!/usr/bin/env python3
 """A few cases of each letter for crates/cases and their answers, written out from documents 01 and 02. `second/cases.py cases` prints what
-crates/cases/stdin must hold, `second/cases.py answers` its stdout. crates/cases/src/main.rt says what a case is."""
+crates/cases/stdin must hold, `second/cases.py answers` its stdout: the cases of profile T and behind them those of D; with a second word,
+`T` or `D`, those of one. crates/cases/src/main.rt says what a case is. s, m, i, o and h are S, M, I, O and H of profile D, and their answers
+have the small letter; in all tables a core's state is 5 for away, 6 for marked and from 7 on for dropped."""
 import struct
 import sys
 
@@ -187,11 +189,11 @@ def whole(counts, counter, cores, shown):
     return head + body + packed(shown)
 
 
-def table(counts, counter, cores, shown, sound):
-    add(b"S" + whole(counts, counter, cores, shown), b"S\t%d\n" % sound)
+def table(counts, counter, cores, shown, sound, case=b"S"):
+    add(case + whole(counts, counter, cores, shown), case + b"\t%d\n" % sound)
 
 
-def method(before, step, answer, after=None):
+def method(before, step, answer, after=None, head=b"M"):
     """A step by its letter, or the letter's number, on a table, which it leaves as it was where no other is given."""
     letter, core, unit = (step.split() + ["0"])[:3]
     number = "RNPICL".index(letter) if letter in "RNPICL" else int(letter)
@@ -201,16 +203,16 @@ def method(before, step, answer, after=None):
         fields += cores.get(k, (0, 0, 0, 0, 0))
     for line, after in units(shown):
         fields += [n for r in line for n in r] + [*after]
-    case = b"M" + whole(*before) + struct.pack("<BHH", number, int(core), int(unit))
-    add(case, b"M" + b"".join(b"\t%d" % n for n in fields) + b"\n")
+    case = head + whole(*before) + struct.pack("<BHH", number, int(core), int(unit))
+    add(case, head + b"".join(b"\t%d" % n for n in fields) + b"\n")
 
 
-def reading(counts, words, answer):
-    add(b"I" + struct.pack("<4H", *counts, len(words)) + b"".join(struct.pack("<I", w) for w in words), b"I\t%s\n" % answer)
+def reading(counts, words, answer, case=b"I"):
+    add(case + struct.pack("<4H", *counts, len(words)) + b"".join(struct.pack("<I", w) for w in words), case + b"\t%s\n" % answer)
 
 
-def writing(counts, room, shown, answer):
-    add(b"O" + struct.pack("<4H", *counts, room) + packed(shown, counts[0]), b"O\t%s\n" % answer)
+def writing(counts, room, shown, answer, case=b"O"):
+    add(case + struct.pack("<4H", *counts, room) + packed(shown, counts[0]), case + b"\t%s\n" % answer)
 
 
 def line(letter, room, place, numbers, answer):
@@ -221,7 +223,7 @@ def line(letter, room, place, numbers, answer):
         fields = [0, place + len(put)]
         lent = lent[:place] + put + lent[place + len(put) :]
         assert len(lent) == room
-    case = struct.pack("<2H", room, place) + struct.pack({b"H": "<4H", b"L": "<B2H", b"E": "<IBHB4H"}[letter], *numbers)
+    case = struct.pack("<2H", room, place) + struct.pack({b"H": "<4H", b"h": "<4H", b"L": "<B2H", b"E": "<IBHB4H"}[letter], *numbers)
     add(letter + case, letter + b"".join(b"\t%d" % n for n in [*fields, *lent]) + b"\n")
 
 
@@ -268,7 +270,7 @@ for u, after, sound in [
 ]:
     table((3, 1, 1), 8, HOLDS[0], {**HOLDS[1], (u, "next"): after}, sound)
 # document 01's run, step by step. A core: own and carried ticket, first and second unit, state.
-IDLE, WAITING, HOLDING, WAITING_SECOND, HOLDING_BOTH, AWAY = range(6)
+IDLE, WAITING, HOLDING, WAITING_SECOND, HOLDING_BOTH, AWAY, MARKED, DROPPED = range(8)
 now = ((3, 1, 1), 65535, {}, {})
 zero, one, two = (65535, 65535, 1, 0, HOLDING), (1, 1, 0, 0, HOLDING), (0, 0, 0, 0, WAITING)
 held = {(1, 0): (65535, 1, 1)}
@@ -466,6 +468,199 @@ for room, place, numbers, answer in [
     line(b"E", room, place, numbers, answer)
 script(text(RUN), text(COLUMNS))
 logs()
+
+
+def dequeueing():
+    """Profile D: scripts, logs, tables, steps by methods, headers and images."""
+    # two dropped in one release and a third granted; back with a new ticket, and in line; interrupted with the flag
+    run = (
+        "D 4 1 0 65534; R 0 0; P 0; R 1 0; R 2 0; R 3 0; I 1; I 2; L 0; C 1; I 1; C 1; N 3 0; P 3; N 3 0; I 3; I 1; C 2; L 3; P 2; C 1; I 2; L 2"
+    )
+    columns = (
+        "F 4 1 0 65534; 1 0 65534 1 0 0; 2 1 65534 0; 3 0 65535 0; 4 0 0 0; 5 0 1 0; 6 0 65535 0; 7 0 0 0; 8 0 65534 1 0 3; 9 0 2 0; "
+        "10 0 2 0; 11 0 2 0; 12 12 0 0; 13 1 1 0; 14 13 0 0; 15 14 0 0; 16 0 2 0; 17 0 3 0; 18 0 1 1 0 2; 19 1 3 0; 20 0 4 0; 21 14 0 0; "
+        "22 0 3 1 0 1"
+    )
+    script(text(run), text(columns))
+    for room in (0, 13, 14, len(text(columns)) - 1, len(text(columns)), 15 + 29 * 22):
+        lent(room, text(run), 0, text(columns))
+    both = zip(run.split("; ")[1:], columns.split("; ")[1:])
+    shown = "; ".join(["D 4 1 0 65534", *(a + " " + b.split(" ", 1)[1] for a, b in both)])
+    log(text(shown), "0 22")
+    # other tickets and grants than the two dropped leave, and a line of profile T
+    lines = "; ".join(shown.split("; ")[:8]) + "; "
+    for last, answer in [
+        ("L 0 0 65534 1 0 3", "0 8"),
+        ("L 0 0 65534 1 0 1", "40 9 7"),
+        ("L 0 0 65534 1 0 2", "40 9 7"),
+        ("L 0 0 65534 0", "40 9 5"),
+        ("L 0 0 0 1 0 3", "40 9 4"),
+        ("C 1 0 65535 0; L 0 0 65534 1 0 1", "0 9"),
+        ("C 1 0 2 0", "40 9 4"),
+        ("L 0 0 65534 1 0 3; C 1 0 65535 0", "40 10 4"),
+        ("L 0 0 65534 1 0 3; C 1 0 2 0", "0 9"),
+        ("D 4 1 0 65534", "21 9"),
+    ]:
+        log(text(lines + last), answer)
+    # headers: no second-class units, and the answers' letter is none
+    for head in ("D 3 1 1 0", "D 3 1 8 0", "D 3 1 9 0", "D 33 1 0 0", "D 0 1 0 0", "D 1 0 0 0", "D 1 9 0 0", "D 1 1 0 65536", "F 1 1 0 0", "d 1 1 0 0"):
+        script(text(head), b"X\t20\n")
+        log(text(head), "20 1")
+    script(text("D 32 8 0 65535"), text("F 32 8 0 65535"))
+    script(text("D 32 8 0 65535; D 1 1 0 0"), text("F 32 8 0 65535; X 21"))
+    script(text("D 32 8 0 65535; T 1 1 0 0"), text("F 32 8 0 65535; X 21"))
+    script(b"D\t32\t8\t0\t65535", b"X\t22\n")
+    script(b"D\t32\t8\t0\t6553500", b"X\t20\n")
+    log(text("D 32 8 0 65535"), "0 0")
+    # core 0 holds unit 0, core 1 is marked there, core 2 waits, core 3 was dropped from unit 1, core 4 is idle
+    cores = {0: (5, 5, 0, 0, HOLDING), 1: (6, 6, 0, 0, MARKED), 2: (7, 7, 0, 0, WAITING), 3: (0, 0, 1, 0, DROPPED)}
+    shown = {(0, 0): (5, 1, 1), (0, 1): (6, 1, 0), (0, 2): (7, 1, 0)}
+    counts = (5, 2, 0)
+    now = (counts, 8, cores, shown)
+    gone = {(0, 0): (5, 1, 1), (0, 2): (7, 1, 0)}
+    for changed_cores, changed_shown, sound in [
+        ({}, shown, 1),
+        # dropped, with something left; naming another unit, or none of the table; numbers from 7 on are the same state
+        ({3: (4, 0, 1, 0, DROPPED)}, shown, 0),
+        ({3: (0, 4, 1, 0, DROPPED)}, shown, 0),
+        ({3: (4, 4, 1, 0, DROPPED)}, shown, 0),
+        ({3: (0, 0, 1, 1, DROPPED)}, shown, 0),
+        ({3: (0, 0, 0, 0, DROPPED)}, shown, 1),
+        ({3: (0, 0, 2, 0, DROPPED)}, shown, 0),
+        ({3: (0, 0, 1, 0, 255)}, shown, 1),
+        ({4: (0, 0, 0, 0, DROPPED)}, shown, 1),
+        ({5: (0, 0, 0, 0, DROPPED)}, shown, 0),
+        # dropped and yet in line; marked there with ticket 0, which is a ticket then, but no other is its own
+        ({3: (0, 0, 0, 0, DROPPED)}, {**shown, (0, 3): (0, 1, 0)}, 0),
+        ({3: (0, 0, 0, 0, MARKED)}, {**shown, (0, 3): (0, 1, 0)}, 1),
+        ({3: (0, 0, 0, 0, MARKED)}, {**shown, (0, 3): (4, 1, 0)}, 0),
+        ({3: (0, 0, 1, 0, MARKED)}, {**shown, (1, 3): (0, 1, 0)}, 0),
+        ({3: (0, 0, 1, 0, MARKED)}, shown, 0),
+        # marked, with the flag, also for the holder's; out of line, elsewhere, with other tickets
+        ({}, {**shown, (0, 1): (6, 1, 1)}, 0),
+        ({}, {**shown, (0, 0): (5, 1, 0), (0, 1): (6, 1, 1)}, 0),
+        ({0: (5, 5, 0, 0, WAITING)}, {**shown, (0, 0): (5, 1, 0), (0, 1): (6, 1, 1)}, 0),
+        ({}, gone, 0),
+        ({1: (0, 0, 0, 0, MARKED)}, gone, 0),
+        ({1: (6, 6, 0, 0, DROPPED)}, gone, 0),
+        ({1: (0, 0, 0, 0, DROPPED)}, gone, 1),
+        ({1: (6, 6, 1, 0, MARKED)}, shown, 0),
+        ({}, {**shown, (1, 1): (6, 1, 0)}, 0),
+        ({1: (6, 5, 0, 0, MARKED)}, shown, 0),
+        ({1: (4, 4, 0, 0, MARKED)}, shown, 0),
+        ({}, {**shown, (0, 1): (4, 1, 0)}, 0),
+        ({1: (8, 8, 0, 0, MARKED)}, {**shown, (0, 1): (8, 1, 0)}, 0),
+        ({1: (7, 7, 0, 0, MARKED)}, {**shown, (0, 1): (7, 1, 0)}, 0),
+        # away as in T, in line, out of line, and without a ticket
+        ({1: (6, 6, 0, 0, AWAY)}, shown, 0),
+        ({1: (6, 6, 0, 0, AWAY)}, gone, 0),
+        ({1: (0, 0, 0, 0, AWAY)}, gone, 0),
+        ({3: (0, 0, 1, 0, AWAY)}, shown, 0),
+        # nobody has the unit
+        ({0: (0, 0, 0, 0, IDLE), 2: (0, 0, 0, 0, IDLE)}, {(0, 1): (6, 1, 0)}, 0),
+        # a second unit
+        ({0: (5, 5, 0, 1, WAITING_SECOND)}, {**shown, (1, 0): (5, 1, 1)}, 0),
+        ({0: (5, 5, 0, 1, HOLDING_BOTH)}, {**shown, (1, 0): (5, 1, 1)}, 0),
+        # the next in line passes over the one that is marked
+        ({}, {**shown, (0, "next"): (7, 2, 1, 1)}, 0),
+        ({}, {**shown, (0, "next"): (6, 1, 1, 1)}, 1),
+    ]:
+        table(counts, 8, {**cores, **changed_cores}, changed_shown, sound, b"s")
+    table((5, 2, 1), 8, cores, shown, 0, b"s")
+    table((5, 1, 1), 8, {}, {}, 0, b"s")
+    table((32, 8, 0), 65535, {}, {}, 1, b"s")
+    table((33, 8, 0), 65535, {}, {}, 0, b"s")
+    # in T nobody is marked or dropped, and who is away has a ticket, 0 too
+    table(counts, 8, cores, shown, 0)
+    for state, in_t, in_d in (AWAY, 1, 0), (MARKED, 0, 0), (DROPPED, 0, 1):
+        table(counts, 8, {3: (0, 0, 1, 0, state)}, {}, in_t)
+        table(counts, 8, {3: (0, 0, 1, 0, state)}, {}, in_d, b"s")
+    table(counts, 0, {3: (0, 0, 1, 0, AWAY)}, {}, 0)
+    table(counts, 0, {3: (0, 0, 1, 0, DROPPED)}, {}, 1, b"s")
+    table(counts, 8, {0: cores[0], 1: cores[1]}, {k: r for k, r in shown.items() if k[1] < 2}, 0)
+    method((counts, 8, {3: (0, 0, 1, 0, DROPPED)}, {}), "C 3", "16 0 0")
+    method((counts, 8, {3: (0, 0, 1, 0, MARKED)}, {}), "R 0 0", "16 0 0")
+
+    def step(before, *rest):
+        method(before, *rest, head=b"m")
+
+    def then(counter, changed_cores, shown):
+        return counts, counter, {**cores, **changed_cores}, shown
+
+    idle, dropped = (0, 0, 0, 0, IDLE), (0, 0, 0, 0, DROPPED)
+    step(now, "I 2", "0 7 0", (then(8, {2: (7, 7, 0, 0, MARKED)}, shown)))
+    step(now, "C 1", "0 6 0", (then(8, {1: (6, 6, 0, 0, WAITING)}, shown)))
+    step(now, "C 3", "0 8 1 1 3", (then(9, {3: (8, 8, 1, 0, WAITING)}, {**shown, (1, 3): (8, 1, 1)})))
+    step(now, "L 0", "0 5 1 0 2", (then(8, {0: idle, 1: dropped}, {(0, 2): (7, 1, 1)})))
+    step(now, "P 2", "2 7 0")
+    step(now, "R 4 0", "0 8 0", (then(9, {4: (8, 8, 0, 0, WAITING)}, {**shown, (0, 4): (8, 1, 0)})))
+    for refused, answer in [("P 1", 12), ("I 1", 12), ("L 1", 12), ("R 1 0", 12), ("R 3 1", 12), ("P 3", 12), ("I 3", 12), ("C 2", 12), ("C 4", 12),
+                            ("I 0", 14), ("N 0 1", 13), ("N 0 2", 11), ("N 2 1", 12), ("C 5", 10), ("R 4 2", 11)]:
+        step(now, refused, "%d 0 0" % answer)
+    # the flag set and not polled: its ticket is reported, and ended
+    flagged = then(8, {0: (5, 5, 0, 0, WAITING)}, shown)
+    step(flagged, "I 0", "0 5 1 0 2", (then(8, {0: dropped, 1: dropped}, {(0, 2): (7, 1, 1)})))
+    step(flagged, "P 0", "1 5 0", now)
+    # all in line away: all are dropped, and nobody is granted
+    away = then(8, {2: (7, 7, 0, 0, MARKED)}, shown)
+    step(away, "L 0", "0 5 0", (then(8, {0: idle, 1: dropped, 2: dropped}, {})))
+    # one that is away behind one that is not stays in line
+    behind = then(8, {1: (6, 6, 0, 0, WAITING), 2: (7, 7, 0, 0, MARKED)}, shown)
+    step(behind, "L 0", "0 5 1 0 1", (then(8, {0: idle, 1: (6, 6, 0, 0, WAITING), 2: (7, 7, 0, 0, MARKED)}, {(0, 1): (6, 1, 1), (0, 2): (7, 1, 0)})))
+    # 5 is live, 32,767 and 32,768 behind the counter
+    for counter in 32772, 32773:
+        before = then(counter, {}, shown)
+        step(before, "C 1", "0 6 0", (then(counter, {1: (6, 6, 0, 0, WAITING)}, shown)))
+        step(before, "C 2", "12 0 0")
+        if counter == 32773:
+            step(before, "C 3", "15 0 0")
+            step(before, "R 4 1", "15 0 0")
+        else:
+            step(before, "C 3", "0 32772 1 1 3", (then(32773, {3: (32772, 32772, 1, 0, WAITING)}, {**shown, (1, 3): (32772, 1, 1)})))
+    # a dropped core's 0 is no ticket, wherever the counter stands
+    for counter in 0, 1, 32768, 32769, 65535:
+        before = counts, counter, {3: (0, 0, 1, 0, DROPPED)}, {}
+        after = counts, (counter + 1) % 65536, {3: (counter, counter, 1, 0, WAITING)}, {(1, 3): (counter, 1, 1)}
+        step(before, "C 3", "0 %d 1 1 3" % counter, after)
+    # 16 before all others
+    for letter in ["R 0 0", "N 0 1", "P 1", "I 1", "C 1", "L 0", "P 9"]:
+        step((counts, 8, {**cores, 3: (4, 4, 1, 0, DROPPED)}, shown), letter, "16 0 0")
+        step(((5, 2, 1), 8, cores, shown), letter, "16 0 0")
+    for room, place, numbers, answer in [
+        (14, 0, (8, 8, 0, 65535), "D 8 8 0 65535"),
+        (13, 0, (8, 8, 0, 65535), 23),
+        (15, 0, (32, 8, 0, 65535), "D 32 8 0 65535"),
+        (14, 0, (32, 8, 0, 65535), 23),
+        (20, 3, (1, 1, 0, 0), "D 1 1 0 0"),
+        (10, 65535, (1, 1, 0, 0), 23),
+        (14, 0, (1, 1, 1, 0), 20),
+        (14, 0, (1, 1, 8, 0), 20),
+        (14, 0, (1, 1, 9, 0), 20),
+        (14, 0, (33, 1, 0, 0), 20),
+        (14, 0, (0, 1, 0, 0), 20),
+        (14, 0, (1, 9, 0, 0), 20),
+        (3, 9, (1, 1, 1, 0), 20),
+    ]:
+        line(b"h", room, place, numbers, answer)
+    # images: as in T, but for second-class units
+    reading((2, 2, 0), [65541, 196612, 65541, 0, 65540, 65540], b"0\t5\t1\t0\t4\t1\t1\t5\t0\t1\t1\t0\t0\t0\t4\t1\t0\t4\t1\t1\t0", b"i")
+    reading((2, 1, 1), [65541, 196612, 65541, 0, 65540, 65540], b"20", b"i")
+    reading((2, 2, 0), [65541, 196612, 65541, 0, 65540], b"30", b"i")
+    reading((2, 2, 0), [65541, 196612, 65541, 0, 65540, 0], b"30", b"i")
+    registers = {(0, 0): (5, 1, 0), (0, 1): (4, 1, 1), (1, 1): (4, 1, 0)}
+    writing((2, 2, 0), 6, registers, b"0\t65541\t196612\t65541\t0\t65540\t65540", b"o")
+    writing((2, 1, 1), 6, registers, b"20", b"o")
+    writing((2, 2, 0), 5, registers, b"30", b"o")
+    writing((2, 2, 0), 6, {**registers, (1, "next"): (0, 0, 0, 0)}, b"30", b"o")
+    writing((32, 8, 0), 8 * 33, {}, b"0" + b"\t0" * (8 * 33), b"o")
+
+
+profiles = sys.argv[2] if len(sys.argv) > 2 else "TD"
+if "T" not in profiles:
+    cases.clear()
+    answers.clear()
+if "D" in profiles:
+    dequeueing()
 # the last case is cut off, which ends the program
 cases.append(b"W\0\0\1")
 

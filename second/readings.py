@@ -1,5 +1,5 @@
 #!/usr/bin/env python3
-"""The cases of crates/readings and their answers, made from document 01 alone, by regular expressions and plain arithmetic.
+"""The cases of crates/readings and their answers, made from documents 01 and 02 alone, by regular expressions and plain arithmetic.
 `second/readings.py cases` prints what crates/readings/stdin must hold, `second/readings.py answers` its stdout.
 
 A case is a letter, a length byte, and so many bytes: S, a script after its header; H, a script before it; W, a register word,
@@ -10,7 +10,7 @@ import sys
 
 NUMBER = rb"(0|[1-9][0-9]{0,4})"
 STEP = re.compile(rb"(?:([RN])\t%s\t%s|([PICL])\t%s)\Z" % (NUMBER, NUMBER, NUMBER))
-HEADER = re.compile(rb"T\t%s\t%s\t%s\t%s\Z" % (NUMBER, NUMBER, NUMBER, NUMBER))
+HEADER = re.compile(rb"([TD])\t%s\t%s\t%s\t%s\Z" % (NUMBER, NUMBER, NUMBER, NUMBER))
 
 
 def line_of(script):
@@ -45,10 +45,11 @@ def header(script):
     m = HEADER.match(line)
     if not m:
         return "20"
-    cores, first, second, counter = map(int, m.groups())
-    if not (1 <= cores <= 32 and 1 <= first <= 8 and second <= 8 and counter <= 65535):
+    letter = m.group(1).decode()
+    cores, first, second, counter = map(int, m.groups()[1:])
+    if not (1 <= cores <= 32 and 1 <= first <= 8 and second <= (8 if letter == "T" else 0) and counter <= 65535):
         return "20"
-    return "\t".join(map(str, ["T", cores, first, second, counter, after]))
+    return "\t".join(map(str, [letter, cores, first, second, counter, after]))
 
 
 def word(data):
@@ -90,8 +91,13 @@ def cases():
                 yield b"H", b"T\t%d\t%d\t%d\t7\n" % (cores, first, second)
     for counter in b"0", b"65535", b"65536", b"01", b"":
         yield b"H", b"T\t3\t1\t1\t" + counter + b"\n"
-    for letter in b"DEt":
+    for letter in b"DEFtd":
         yield b"H", bytes([letter]) + b"\t3\t1\t1\t0\n"
+        yield b"H", bytes([letter]) + b"\t3\t1\t0\t0\n"
+    for cores in 0, 1, 32, 33:
+        for first in 0, 1, 8, 9:
+            for second in 0, 1, 8, 9:
+                yield b"H", b"D\t%d\t%d\t%d\t65535\n" % (cores, first, second)
     alphabet = b"0123456789\t\nRNPICLT \xff"
     for _ in range(600):
         yield b"SH"[rng.randrange(2):][:1], bytes(rng.choice(alphabet) for _ in range(rng.randrange(19)))
@@ -104,11 +110,32 @@ def cases():
     for _ in range(200):
         w = rng.randrange(1 << 18) ^ (1 << rng.randrange(32) if rng.randrange(3) == 0 else 0)
         yield b"W", w.to_bytes(4, "little")
+    for _ in range(150):
+        line = bytearray(rng.choice([b"D\t8\t8\t0\t65535\n", b"D\t32\t8\t0\t7\n"]))
+        line[rng.randrange(len(line))] = rng.choice(alphabet + b"D")
+        yield b"H", bytes(line)
+
+
+def dequeueing():
+    """Headers of profile D: every beginning of the longest, what may follow it, and numbers in other forms; as step lines too."""
+    whole = b"D\t32\t8\t0\t65535\n"
+    for n in range(len(whole) + 1):
+        yield b"H", whole[:n]
+        yield b"S", whole[:n]
+    for tail in b"0", b"0\n", b"\n\n", b"\t\n", b"\r\n", b" \n", b"\nP\t0\n", b"\nT\t1\t1\t0\t0\n":
+        yield b"H", whole[:-1] + tail
+        yield b"H", b"D\t3\t1\t0\t7" + tail
+    for counter in b"0", b"65535", b"65536", b"01", b"":
+        yield b"H", b"D\t3\t1\t0\t" + counter + b"\n"
+    for second in b"00", b"", b"-0", b"65535", b"65536":
+        yield b"H", b"D\t3\t1\t" + second + b"\t0\n"
+    for letter in b"DEFTdt":
+        yield b"S", bytes([letter]) + b"\t3\t1\t0\t0\n"
 
 
 def main():
     answer = {b"S": step, b"H": header, b"W": word}
-    for kind, data in cases():
+    for kind, data in [*cases(), *dequeueing()]:
         if sys.argv[1] == "cases":
             sys.stdout.buffer.write(kind + bytes([len(data)]) + data)
         else:

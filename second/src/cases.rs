@@ -6,7 +6,9 @@
 //!   call with that room (0 where the script is finished), and the bytes written.
 //! - `G`: u16 length, log. Answer: `G`, the number, and for 40 the line and the field,
 //!   for 20, 21, 22 and 24 the line, for 0 the number of steps that agree.
-//! - `S`: a table of 2,440 bytes (see `put_whole`). Answer: `S`, 1 if sound else 0.
+//! - `S`: a table of 2,440 bytes (see `put_whole`; a core's state is 0 idle, 1 waiting,
+//!   2 holding, 3 waiting at its second, 4 holding both, 5 away, 6 marked, from 7 on
+//!   dropped). Answer: `S`, 1 if sound else 0.
 //! - `M`: a table as in `S`, u8 letter (0 R, 1 N, 2 P, 3 I, 4 C, from 5 on L), u16
 //!   core, u16 unit. Answer: `M`, answer, ticket, number of grants, unit and core
 //!   of each, and every number of the next table in the order of `put_whole`.
@@ -23,6 +25,8 @@
 //!   ticket, u8 number of grants (from 2 on two), two times u16 unit, u16 core.
 //!   Answer: the letter, 20, 23, or 0 and the place after the line; then each
 //!   byte lent, as a number.
+//! - `s`, `m`, `i`, `o`, `h`: as the capital letters, for a table, counts or a header of
+//!   profile D; those are of T. The answer has the case's letter.
 //!
 //! A case that is cut off, or of no such letter, ends the run.
 
@@ -31,7 +35,7 @@ use std::io::{self, BufReader, BufWriter, ErrorKind, Read, Write};
 use crate::log;
 use crate::script::put_field;
 use crate::table::{
-    Core, Kind, Next, Outcome, Register, State, Step, Table, Unit, MAX_CORES, MAX_UNITS,
+    Core, Kind, Next, Outcome, Profile, Register, State, Step, Table, Unit, MAX_CORES, MAX_UNITS,
 };
 use crate::translate::translate;
 use crate::words;
@@ -120,6 +124,22 @@ pub fn lent(room: usize, answers: &[u8]) -> (u8, usize) {
     (0, wrote)
 }
 
+/// The letter of a case for this profile: the small one is D's.
+pub fn letter_in(profile: Profile, letter: u8) -> u8 {
+    match profile {
+        Profile::T => letter,
+        Profile::D => letter.to_ascii_lowercase(),
+    }
+}
+
+fn profile_of(letter: u8) -> Profile {
+    if letter.is_ascii_lowercase() {
+        Profile::D
+    } else {
+        Profile::T
+    }
+}
+
 fn put_whole(case: &mut Vec<u8>, table: &Table) {
     for number in [
         table.cores,
@@ -139,12 +159,12 @@ fn put_whole(case: &mut Vec<u8>, table: &Table) {
 }
 
 pub fn put_table(case: &mut Vec<u8>, table: &Table) {
-    case.push(b'S');
+    case.push(letter_in(table.profile, b'S'));
     put_whole(case, table);
 }
 
 pub fn put_method(case: &mut Vec<u8>, table: &Table, step: Step) {
-    case.push(b'M');
+    case.push(letter_in(table.profile, b'M'));
     put_whole(case, table);
     put_step(case, step);
 }
@@ -166,8 +186,8 @@ pub fn put_pack(case: &mut Vec<u8>, register: &Register) {
     put_register(case, register);
 }
 
-pub fn put_read_image(case: &mut Vec<u8>, counts: [u16; 3], words: &[u32]) {
-    case.push(b'I');
+pub fn put_read_image(case: &mut Vec<u8>, profile: Profile, counts: [u16; 3], words: &[u32]) {
+    case.push(letter_in(profile, b'I'));
     for number in counts {
         put_u16(case, number);
     }
@@ -177,8 +197,14 @@ pub fn put_read_image(case: &mut Vec<u8>, counts: [u16; 3], words: &[u32]) {
     }
 }
 
-pub fn put_write_image(case: &mut Vec<u8>, counts: [u16; 3], room: u16, units: &[Unit; MAX_UNITS]) {
-    case.push(b'O');
+pub fn put_write_image(
+    case: &mut Vec<u8>,
+    profile: Profile,
+    counts: [u16; 3],
+    room: u16,
+    units: &[Unit; MAX_UNITS],
+) {
+    case.push(letter_in(profile, b'O'));
     for number in counts {
         put_u16(case, number);
     }
@@ -191,7 +217,7 @@ pub fn put_line(case: &mut Vec<u8>, room: u16, place: u16, line: &Line) {
     put_u16(case, room);
     put_u16(case, place);
     match line {
-        Line::Header(numbers) => numbers.iter().for_each(|number| put_u16(case, *number)),
+        Line::Header(_, numbers) => numbers.iter().for_each(|number| put_u16(case, *number)),
         Line::Step(step) => put_step(case, *step),
         Line::Expected(number, outcome) => {
             case.extend_from_slice(&number.to_le_bytes());
@@ -245,8 +271,9 @@ impl Payload<'_> {
         })
     }
 
-    fn table(&mut self) -> Table {
+    fn table(&mut self, profile: Profile) -> Table {
         let mut table = Table {
+            profile,
             cores: self.u16(),
             first_class: self.u16(),
             second_class: self.u16(),
@@ -266,7 +293,9 @@ impl Payload<'_> {
                     2 => State::Holding,
                     3 => State::WaitingSecond,
                     4 => State::HoldingBoth,
-                    _ => State::Away,
+                    5 => State::Away,
+                    6 => State::Marked,
+                    _ => State::Dropped,
                 },
             };
         }
@@ -284,7 +313,7 @@ impl Payload<'_> {
 
     fn line(&mut self, letter: u8) -> Line {
         match letter {
-            b'H' => Line::Header([(); 4].map(|()| self.u16())),
+            b'H' | b'h' => Line::Header(profile_of(letter), [(); 4].map(|()| self.u16())),
             b'L' => Line::Step(self.step()),
             _ => Line::Expected(
                 self.u32(),
@@ -386,15 +415,15 @@ fn answer<R: Read>(input: &mut R, payload: &mut Vec<u8>, out: &mut Vec<u8>) -> i
                 put_field(out, field);
             }
         }
-        b'S' => {
+        b'S' | b's' => {
             read(payload, TABLE)?;
-            let sound = Payload(payload).table().sound();
+            let sound = Payload(payload).table(profile_of(letter)).sound();
             put_answer(out, letter, sound as u8);
         }
-        b'M' => {
+        b'M' | b'm' => {
             read(payload, TABLE + 5)?;
             let mut fields = Payload(payload);
-            let mut table = fields.table();
+            let mut table = fields.table(profile_of(letter));
             let outcome = table.step_any(fields.step());
             out.push(letter);
             put_outcome(out, &outcome);
@@ -420,14 +449,14 @@ fn answer<R: Read>(input: &mut R, payload: &mut Vec<u8>, out: &mut Vec<u8>) -> i
                 }
             }
         }
-        b'I' => {
+        b'I' | b'i' => {
             read(payload, 8)?;
             let mut fields = Payload(payload);
             let [cores, first, second, n] = [(); 4].map(|()| fields.u16());
             read(payload, n as usize * 4)?;
             let mut fields = Payload(payload);
             let image: Vec<u32> = (0..n).map(|_| fields.u32()).collect();
-            match words::read_image(cores, first, second, &image) {
+            match words::read_image(profile_of(letter), [cores, first, second], &image) {
                 Err(number) => put_answer(out, letter, number),
                 Ok(units) => {
                     put_answer(out, letter, 0);
@@ -437,13 +466,14 @@ fn answer<R: Read>(input: &mut R, payload: &mut Vec<u8>, out: &mut Vec<u8>) -> i
                 }
             }
         }
-        b'O' => {
+        b'O' | b'o' => {
             read(payload, 8 + UNITS)?;
             let mut fields = Payload(payload);
-            let [cores, first, second, room] = [(); 4].map(|()| fields.u16());
+            let counts = [(); 3].map(|()| fields.u16());
+            let room = fields.u16();
             let units = fields.units();
             let mut image = vec![0; room as usize];
-            match words::write_image(cores, first, second, &units, &mut image) {
+            match words::write_image(profile_of(letter), counts, &units, &mut image) {
                 Err(number) => put_answer(out, letter, number),
                 Ok(()) => {
                     put_answer(out, letter, 0);
@@ -453,7 +483,7 @@ fn answer<R: Read>(input: &mut R, payload: &mut Vec<u8>, out: &mut Vec<u8>) -> i
                 }
             }
         }
-        b'H' | b'L' | b'E' => {
+        b'H' | b'h' | b'L' | b'E' => {
             read(payload, 4)?;
             let mut fields = Payload(payload);
             let (room, place) = (fields.u16() as usize, fields.u16() as usize);
@@ -461,7 +491,7 @@ fn answer<R: Read>(input: &mut R, payload: &mut Vec<u8>, out: &mut Vec<u8>) -> i
                 return Ok(false);
             }
             let length = match letter {
-                b'H' => 8,
+                b'H' | b'h' => 8,
                 b'L' => 5,
                 _ => 16,
             };
@@ -515,15 +545,15 @@ pub fn described(case: &[u8]) -> String {
     for byte in &case[1..] {
         text += &format!(" {byte:02x}");
     }
-    if matches!(case[0], b'H' | b'L' | b'E') {
+    if matches!(case[0], b'H' | b'h' | b'L' | b'E') {
         let mut fields = Payload(&case[1..]);
         let (room, place) = (fields.u16(), fields.u16());
         let line = fields.line(case[0]);
         text += &format!("\n{room} bytes lent, place {place}, {line:?}");
     }
-    if matches!(case[0], b'S' | b'M') {
+    if matches!(case[0], b'S' | b'M' | b's' | b'm') {
         let mut fields = Payload(&case[1..]);
-        let table = fields.table();
+        let table = fields.table(profile_of(case[0]));
         let Table {
             cores,
             first_class,
@@ -531,16 +561,19 @@ pub fn described(case: &[u8]) -> String {
             counter,
             ..
         } = table;
-        text += &format!("\ncounts {cores} {first_class} {second_class}, counter {counter}");
+        let profile = table.profile;
+        text += &format!(
+            "\n{profile:?}, counts {cores} {first_class} {second_class}, counter {counter}"
+        );
         for (c, core) in table.core.iter().enumerate() {
             text += &format!("\ncore {c}: {core:?}");
         }
         put_described(&mut text, &table.unit);
-        if case[0] == b'M' {
+        if matches!(case[0], b'M' | b'm') {
             text += &format!("\n{:?}", fields.step());
         }
     }
-    if case[0] == b'O' {
+    if matches!(case[0], b'O' | b'o') {
         put_described(&mut text, &Payload(&case[9..]).units());
     }
     text
@@ -592,28 +625,34 @@ mod tests {
                 flag: false,
             },
         );
-        put_read_image(&mut cases, [1, 1, 1], &[65_537, 65_537, 0, 0]);
-        put_read_image(&mut cases, [1, 1, 0], &[196_611, 0]);
-        put_read_image(&mut cases, [1, 1, 1], &[65_537, 0]);
-        put_read_image(&mut cases, [1, 1, 1], &[65_537, 0, 0, 0]);
-        put_read_image(&mut cases, [33, 1, 1], &[65_537]);
-        put_write_image(&mut cases, [2, 1, 1], 6, &table.unit);
-        put_write_image(&mut cases, [2, 1, 1], 4, &table.unit);
-        put_write_image(&mut cases, [2, 0, 1], 3, &table.unit);
+        put_read_image(&mut cases, Profile::T, [1, 1, 1], &[65_537, 65_537, 0, 0]);
+        put_read_image(&mut cases, Profile::T, [1, 1, 0], &[196_611, 0]);
+        put_read_image(&mut cases, Profile::T, [1, 1, 1], &[65_537, 0]);
+        put_read_image(&mut cases, Profile::T, [1, 1, 1], &[65_537, 0, 0, 0]);
+        put_read_image(&mut cases, Profile::T, [33, 1, 1], &[65_537]);
+        put_write_image(&mut cases, Profile::T, [2, 1, 1], 6, &table.unit);
+        put_write_image(&mut cases, Profile::T, [2, 1, 1], 4, &table.unit);
+        put_write_image(&mut cases, Profile::T, [2, 0, 1], 3, &table.unit);
         let mut units = table.unit;
         units[0].registers[1] = Register {
             ticket: 3,
             valid: true,
             flag: false,
         };
-        put_write_image(&mut cases, [2, 1, 0], 3, &units);
+        put_write_image(&mut cases, Profile::T, [2, 1, 0], 3, &units);
         units[0].next = Next {
             ticket: 3,
             core: 1,
             valid: true,
             held: false,
         };
-        put_write_image(&mut cases, [2, 1, 0], 3, &units);
+        put_write_image(&mut cases, Profile::T, [2, 1, 0], 3, &units);
+        let of_d = Table::fresh_in(Profile::D, [2, 2, 0], 5).unwrap();
+        put_table(&mut cases, &of_d);
+        put_read_image(&mut cases, Profile::D, [1, 1, 0], &[196_611, 0]);
+        put_read_image(&mut cases, Profile::D, [1, 1, 1], &[65_537, 65_537, 0, 0]);
+        put_write_image(&mut cases, Profile::D, [2, 1, 0], 3, &units);
+        put_write_image(&mut cases, Profile::D, [2, 1, 1], 6, &table.unit);
         put_log(&mut cases, b"T\t1\t1\t0\t7\nP\t0\t12\t0\t0\n");
         put_log(&mut cases, b"T\t1\t1\t0\t7\nP\t0\t12\t1\t0\n");
         put_log(&mut cases, b"T\t1\t1\t0\t7\nP\t0\t12\t0\t0\nP");
@@ -627,7 +666,8 @@ mod tests {
              W\t0\t65535\t1\t1\nW\t30\nP\t0\t65538\nP\t30\n\
              I\t0\t1\t1\t0\t1\t0\t1\t0\t0\t0\t0\t0\t0\t0\t0\nI\t0\t3\t1\t1\t0\t0\t0\t1\n\
              I\t30\nI\t30\nI\t20\nO\t0\t0\t0\t0\t0\t0\t0\nO\t30\nO\t20\nO\t30\n\
-             O\t0\t0\t65539\t65539\nG\t0\t1\nG\t40\t2\t4\nG\t22\t3\nG\t20\t1\n"
+             O\t0\t0\t65539\t65539\ns\t1\ni\t0\t3\t1\t1\t0\t0\t0\t1\ni\t20\n\
+             o\t0\t0\t65539\t65539\no\t20\nG\t0\t1\nG\t40\t2\t4\nG\t22\t3\nG\t20\t1\n"
         );
         assert_eq!(TABLE, 2_440);
     }

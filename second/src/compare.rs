@@ -13,10 +13,11 @@ use crate::cases;
 use crate::damage;
 use crate::lines;
 use crate::logs;
-use crate::make::{edge_counter, Maker, Seen};
+use crate::make::{edge_counter, Maker, Profiles, Seen, DEQUEUEING};
 use crate::program::{self, Ran};
 use crate::rng::Rng;
 use crate::script::STEPS_MAX;
+use crate::table::Profile;
 use crate::tables;
 use crate::translate::translate;
 use crate::writers;
@@ -26,6 +27,8 @@ pub struct Options {
     pub starter: String,
     pub steps: u64,
     pub seed: u64,
+    /// Which profiles ours knows: with both, half of what is made is of D.
+    pub profiles: Profiles,
     /// Damaged scripts in batches.
     pub damaged: u64,
     /// Damaged scripts with a process of their own.
@@ -74,6 +77,8 @@ const WRITER_NUMBERS: [(u8, u32); 7] = [
     (b'E', 0),
     (b'E', 23),
 ];
+/// The same of headers of D.
+const WRITER_NUMBERS_D: [(u8, u32); 3] = [(b'h', 0), (b'h', 20), (b'h', 23)];
 const WRITERS_ENOUGH: u64 = 3_000;
 /// The stops that so many damaged scripts have to meet, where a call is lent so
 /// many bytes.
@@ -252,6 +257,8 @@ struct Tally {
     methods: BTreeMap<u8, u64>,
     method_numbers: BTreeMap<u32, u64>,
     method_two_grants: u64,
+    /// Steps by methods in D, by their letters with their answers.
+    methods_d: BTreeMap<(u8, u32), u64>,
     /// Lines by the writers: their letters with their answers, those that fill
     /// the bytes lent to the last.
     writers: BTreeMap<(u8, u32), u64>,
@@ -293,6 +300,7 @@ impl Tally {
         add_all(&mut self.lines, other.lines);
         add_all(&mut self.methods, other.methods);
         add_all(&mut self.method_numbers, other.method_numbers);
+        add_all(&mut self.methods_d, other.methods_d);
         add_all(&mut self.writers, other.writers);
         add_all(&mut self.lent, other.lent);
         add_all(&mut self.log_numbers, other.log_numbers);
@@ -310,7 +318,7 @@ impl Tally {
         let mut lines = script.split(|b| *b == b'\n').skip(1);
         for line in answers.split(|b| *b == b'\n') {
             match line.first() {
-                Some(b'E') => {
+                Some(b'E' | b'F') => {
                     let counts = line.rsplitn(2, |b| *b == b'\t').last().unwrap_or_default();
                     *self.headers.entry(counts.to_vec()).or_default() += 1;
                 }
@@ -336,9 +344,14 @@ impl Tally {
     }
 
     /// Counts a step by a method by its answer: number, ticket, number of grants.
-    fn count_method(&mut self, answer: &[u8]) {
+    fn count_method(&mut self, profile: Profile, letter: u8, answer: &[u8]) {
         let mut fields = numbers_of(answer);
         let number = fields.next().unwrap_or_default();
+        if profile == Profile::D {
+            *self.methods_d.entry((letter, number)).or_default() += 1;
+            return;
+        }
+        *self.methods.entry(letter).or_default() += 1;
         *self.method_numbers.entry(number).or_default() += 1;
         self.method_two_grants += (fields.nth(1) == Some(2)) as u64;
     }
@@ -383,6 +396,8 @@ impl Tally {
 
 /// How many counts are in range: of cores, and of units of the two classes.
 const COUNTS: u64 = 32 * 8 * 9;
+/// The same in D.
+const COUNTS_D: u64 = 32 * 8;
 
 /// The longest header and the longest line of a step, with their ends.
 const HEADER_MOST: usize = 15;
@@ -516,10 +531,18 @@ impl Comparison<'_> {
 
     fn run_batch(&self, batch: Batch, tally: &mut Tally) -> Result<(), Box<Difference>> {
         let seed = self.options.seed;
+        let profiles = self.options.profiles;
         match batch {
             Batch::Long { stream, steps, end } => {
                 let mut rng = Rng::new(seed, stream);
-                let mut maker = Maker::any(Rng::new(rng.draw(), 0)).stretching();
+                // Long scripts are few: the first is of D, and then every second.
+                let maker_rng = Rng::new(rng.draw(), 0);
+                let maker = if profiles == Profiles::Both && stream % 2 == 1 {
+                    Maker::any_roomy(maker_rng)
+                } else {
+                    Maker::any_in(Profile::T, maker_rng)
+                };
+                let mut maker = maker.stretching();
                 let mut script = Vec::new();
                 maker.put_script(&mut script, steps);
                 let more = match end {
@@ -561,9 +584,10 @@ impl Comparison<'_> {
                     let mut maker = if number % 2 == 0 {
                         let n = (number / 2 % COUNTS) as u16;
                         let counts = [1 + n % 32, 1 + n / 32 % 8, n / 256];
-                        Maker::new(maker_rng, counts, edge_counter(&mut rng))
+                        let profile = profiles.any(&mut rng);
+                        Maker::new_in(profile, maker_rng, counts, edge_counter(&mut rng))
                     } else {
-                        Maker::any(maker_rng)
+                        Maker::any(maker_rng, profiles)
                     };
                     script.clear();
                     maker.put_header(&mut script);
@@ -595,8 +619,8 @@ impl Comparison<'_> {
                 let mut cases = Cases::default();
                 for number in first..first + count {
                     let most = if rng.chance(5) { 200 } else { 12 };
-                    let (kind, script) = damage::listed(number as usize)
-                        .unwrap_or_else(|| damage::any(&mut rng, most));
+                    let (kind, script) = damage::listed(number as usize, profiles)
+                        .unwrap_or_else(|| damage::any(&mut rng, most, profiles));
                     *tally.kinds.entry(format!("{kind:?}")).or_default() += 1;
                     tally.damaged += 1;
                     cases::put_script(&mut cases.input, &script);
@@ -612,7 +636,7 @@ impl Comparison<'_> {
                 let mut rng = Rng::new(seed, stream);
                 for _ in 0..count {
                     let most = rng.pick(&[3, 12, 12, 100, 3_000]);
-                    let (kind, script) = damage::any(&mut rng, most);
+                    let (kind, script) = damage::any(&mut rng, most, profiles);
                     *tally.kinds.entry(format!("{kind:?}")).or_default() += 1;
                     tally.damaged += 1;
                     tally.singles += 1;
@@ -628,10 +652,12 @@ impl Comparison<'_> {
                 let mut rng = Rng::new(seed, stream);
                 let mut cases = Cases::default();
                 for _ in 0..count {
-                    let letter = tables::put_any(&mut rng, &mut cases.input, &mut tally.lines);
+                    let kinds = &mut tally.lines;
+                    let letter = tables::put_any(&mut rng, &mut cases.input, kinds, profiles);
                     *tally.others.entry(letter).or_default() += 1;
                     let answer = cases.close();
-                    tally.sound += (answer == b"S\t1\n") as u64;
+                    let sound: [&[u8]; 2] = [b"S\t1\n", b"s\t1\n"];
+                    tally.sound += sound.contains(&answer) as u64;
                 }
                 self.many(batch, cases)
             }
@@ -639,11 +665,12 @@ impl Comparison<'_> {
                 let mut rng = Rng::new(seed, stream);
                 let mut cases = Cases::default();
                 for _ in 0..count {
-                    let step = tables::put_method(&mut rng, &mut cases.input, &mut tally.lines);
+                    let kinds = &mut tally.lines;
+                    let (profile, step) =
+                        tables::put_method(&mut rng, &mut cases.input, kinds, profiles);
                     let letter = cases::KINDS.iter().position(|kind| *kind == step.kind);
                     let letter = LETTERS[letter.expect("all kinds are listed")];
-                    *tally.methods.entry(letter).or_default() += 1;
-                    tally.count_method(cases.close());
+                    tally.count_method(profile, letter, cases.close());
                 }
                 self.many(batch, cases)
             }
@@ -655,7 +682,8 @@ impl Comparison<'_> {
                 let mut rng = Rng::new(seed, stream);
                 let mut cases = Cases::default();
                 for number in first..first + count {
-                    let letter = writers::LETTERS[(number % 3) as usize];
+                    let letters = writers::letters(profiles);
+                    let letter = letters[number as usize % letters.len()];
                     writers::put_any(&mut rng, &mut cases.input, letter);
                     tally.count_writer(cases.close());
                 }
@@ -674,12 +702,12 @@ impl Comparison<'_> {
                     // Every third is the next of the list, as long as that goes.
                     let next = (number % 3 == 0).then_some(number as usize / 3);
                     let (kind, log) = next
-                        .and_then(logs::listed)
-                        .unwrap_or_else(|| logs::small(&mut rng));
+                        .and_then(|next| logs::listed(next, profiles))
+                        .unwrap_or_else(|| logs::small(&mut rng, profiles));
                     left = left.saturating_sub(tally.close_log(&mut cases, kind, &log));
                 }
                 while left > 0 {
-                    let (kind, log) = logs::long(&mut rng, left);
+                    let (kind, log) = logs::long(&mut rng, left, profiles);
                     left = left.saturating_sub(tally.close_log(&mut cases, kind, &log));
                 }
                 self.many(batch, cases)
@@ -1142,7 +1170,7 @@ pub fn compare(options: &Options) -> i32 {
     );
     println!(
         "in good scripts: second-stage waits {}, inherited {}, given back {}, granted by an inherited ticket {}, \
-         second-stage interrupts {}, interrupts of an unpolled flag {}, returns {}, two grants {}",
+         second-stage interrupts {}, interrupts of an unpolled flag {}, returns {}, two grants {}, 15 in T {}",
         seen.second_stage_waits,
         seen.inherited,
         seen.given_back,
@@ -1151,10 +1179,19 @@ pub fn compare(options: &Options) -> i32 {
         seen.unpolled_interrupts,
         seen.returns,
         seen.two_grants,
+        seen.stretched,
     );
+    let dequeueing: Vec<String> = (seen.dequeueing.iter())
+        .map(|(name, count)| format!("{name} {count}"))
+        .collect();
+    let both = options.profiles == Profiles::Both;
+    if both {
+        println!("in good scripts of D: {}", dequeueing.join(", "));
+    }
     println!(
-        "headers with different counts: {} of {COUNTS}",
-        tally.headers.len()
+        "headers with different counts: {} of {}",
+        tally.headers.len(),
+        COUNTS + if both { COUNTS_D } else { 0 }
     );
     println!("damage: {}", listed(&tally.kinds, |kind| kind.clone()));
     println!(
@@ -1168,6 +1205,15 @@ pub fn compare(options: &Options) -> i32 {
         listed(&tally.method_numbers, |number| format!("{number}:")),
         tally.method_two_grants
     );
+    if both {
+        println!(
+            "steps by method in D: {}",
+            listed(&tally.methods_d, |(letter, number)| format!(
+                "{} {number}:",
+                *letter as char
+            ))
+        );
+    }
     println!(
         "next in line: {}",
         listed(&tally.lines, |kind| format!("{kind}:"))
@@ -1202,14 +1248,35 @@ pub fn compare(options: &Options) -> i32 {
             return 1;
         }
     }
-    let unmet = METHOD_NUMBERS
+    if options.steps > STEPS_MAX as u64 && seen.stretched == 0 {
+        println!("a run of this size has to meet 15 in T");
+        return 1;
+    }
+    let unmet: Vec<&str> = DEQUEUEING
+        .into_iter()
+        .filter(|name| !seen.dequeueing.contains_key(name))
+        .collect();
+    if both && options.steps > STEPS_MAX as u64 && !unmet.is_empty() {
+        println!(
+            "a run of this size has to meet all of D: {}",
+            unmet.join(", ")
+        );
+        return 1;
+    }
+    let mut unmet = METHOD_NUMBERS
         .iter()
         .any(|number| !tally.method_numbers.contains_key(number));
+    if both {
+        unmet |= METHOD_NUMBERS
+            .iter()
+            .any(|number| tally.methods_d.keys().all(|(_, met)| met != number));
+        unmet |= !tally.methods_d.contains_key(&(b'C', 15));
+    }
     if unmet && options.methods >= METHODS_ENOUGH {
         println!("so many steps by methods have to meet every answer");
         return 1;
     }
-    let unmet: Vec<String> = lines::needed()
+    let unmet: Vec<String> = lines::needed(options.profiles)
         .into_iter()
         .filter(|kind| !tally.lines.contains_key(kind))
         .collect();
@@ -1221,9 +1288,13 @@ pub fn compare(options: &Options) -> i32 {
         );
         return 1;
     }
-    let unmet = WRITER_NUMBERS
+    let mut unmet = WRITER_NUMBERS
         .iter()
         .any(|answer| !tally.writers.contains_key(answer));
+    unmet |= both
+        && WRITER_NUMBERS_D
+            .iter()
+            .any(|answer| !tally.writers.contains_key(answer));
     if unmet && options.writers >= WRITERS_ENOUGH {
         println!("so many lines by the writers have to meet every answer");
         return 1;
@@ -1251,7 +1322,7 @@ pub fn compare(options: &Options) -> i32 {
         tally.damaged,
         tally.singles,
         tally.others.values().sum::<u64>(),
-        tally.methods.values().sum::<u64>(),
+        tally.methods.values().sum::<u64>() + tally.methods_d.values().sum::<u64>(),
         tally.writers.values().sum::<u64>(),
         tally.lent.values().sum::<u64>(),
         tally.log_numbers.values().sum::<u64>(),

@@ -1,8 +1,9 @@
 //! Damaged scripts.
 
-use crate::make::{any_counts, edge_counter, Maker};
+use crate::make::{any_counts, edge_counter, Maker, Profiles};
 use crate::rng::Rng;
 use crate::script::put_header;
+use crate::table::Profile;
 
 /// One byte of each class that a reader may tell apart, and the neighbours of
 /// the digits, the tab and the line end.
@@ -11,6 +12,26 @@ const BYTES: [u8; 48] = [
     b'+', b'-', b'.', b',', b'/', b':', b';', b'A', b'B', b'C', b'E', b'I', b'L', b'N', b'P', b'R',
     b'T', b'X', b'Z', b'a', b'c', b'r', b't', b'~', 127, 128, 160, 194, 239, 255,
 ];
+
+/// The letters of profile D and its answers, besides.
+const BYTES_BOTH: [u8; BYTES.len() + 3] = {
+    let mut bytes = [b'D'; BYTES.len() + 3];
+    let mut at = 0;
+    while at < BYTES.len() {
+        bytes[at] = BYTES[at];
+        at += 1;
+    }
+    bytes[at] = b'F';
+    bytes[at + 1] = b'd';
+    bytes
+};
+
+fn bytes_of(profiles: Profiles) -> &'static [u8] {
+    match profiles {
+        Profiles::T => &BYTES,
+        Profiles::Both => &BYTES_BOTH,
+    }
+}
 
 #[derive(Clone, Copy, PartialEq, Eq, Debug)]
 pub enum Kind {
@@ -68,15 +89,28 @@ pub const KINDS: [Kind; 21] = {
 const SAMPLE: &[u8] =
     b"T\t8\t3\t4\t65535\nR\t0\t0\nP\t0\nN\t0\t5\nR\t65535\t65535\nI\t10\nC\t1\nL\t0\n";
 
-/// The script of this number in the list of single damages to the sample.
-pub fn listed(number: usize) -> Option<(Kind, Vec<u8>)> {
-    listed_of(SAMPLE, number)
+const SAMPLE_D: &[u8] =
+    b"D\t8\t3\t0\t65535\nR\t0\t0\nR\t1\t0\nI\t1\nI\t0\nR\t65535\t65535\nP\t10\nC\t1\nN\t1\t2\nL\t1\n";
+
+/// The script of this number in the list of single damages to the sample, or, with
+/// both profiles, to the two samples by turns.
+pub fn listed(number: usize, profiles: Profiles) -> Option<(Kind, Vec<u8>)> {
+    listed_of([SAMPLE, SAMPLE_D], number, profiles)
 }
 
-/// Single damages to this sample: each place cut, deleted, replaced and preceded
-/// by every byte. None past the list.
-pub fn listed_of(sample: &[u8], number: usize) -> Option<(Kind, Vec<u8>)> {
-    let each = 2 + 2 * BYTES.len();
+/// Single damages to the samples of the two profiles: each place cut, deleted,
+/// replaced and preceded by every byte. None past the list.
+pub fn listed_of(
+    samples: [&[u8]; 2],
+    number: usize,
+    profiles: Profiles,
+) -> Option<(Kind, Vec<u8>)> {
+    let bytes = bytes_of(profiles);
+    let (sample, number) = match profiles {
+        Profiles::T => (samples[0], number),
+        Profiles::Both => (samples[number % 2], number / 2),
+    };
+    let each = 2 + 2 * bytes.len();
     let (at, how) = (number / each, number % each);
     if at >= sample.len() {
         return None;
@@ -91,12 +125,12 @@ pub fn listed_of(sample: &[u8], number: usize) -> Option<(Kind, Vec<u8>)> {
             script.remove(at);
             Kind::Deleted
         }
-        _ if how < 2 + BYTES.len() => {
-            script[at] = BYTES[how - 2];
+        _ if how < 2 + bytes.len() => {
+            script[at] = bytes[how - 2];
             Kind::Replaced
         }
         _ => {
-            script.insert(at, BYTES[how - 2 - BYTES.len()]);
+            script.insert(at, bytes[how - 2 - bytes.len()]);
             Kind::Inserted
         }
     };
@@ -104,18 +138,19 @@ pub fn listed_of(sample: &[u8], number: usize) -> Option<(Kind, Vec<u8>)> {
 }
 
 /// A good script of at most `most` steps, damaged in some way.
-pub fn any(rng: &mut Rng, most: u64) -> (Kind, Vec<u8>) {
+pub fn any(rng: &mut Rng, most: u64, profiles: Profiles) -> (Kind, Vec<u8>) {
     let kind = rng.pick(&KINDS);
     let mut script = Vec::new();
     let steps = rng.within(0, most);
-    Maker::any(Rng::new(rng.draw(), 0)).put_script(&mut script, steps);
-    damage(rng, kind, &mut script);
+    Maker::any(Rng::new(rng.draw(), 0), profiles).put_script(&mut script, steps);
+    damage(rng, kind, &mut script, profiles);
     if kind == Kind::Several {
         for _ in 0..rng.within(2, 4) {
             let kind = rng.pick(&KINDS);
-            damage(rng, kind, &mut script);
+            damage(rng, kind, &mut script, profiles);
         }
     }
+    profiles.keep(&mut script);
     (kind, script)
 }
 
@@ -153,10 +188,15 @@ fn places(script: &[u8], byte: u8) -> Vec<usize> {
     (0..script.len()).filter(|at| script[*at] == byte).collect()
 }
 
-fn any_header(rng: &mut Rng) -> Vec<u8> {
-    let [cores, first, second] = any_counts(rng);
+fn any_header(rng: &mut Rng, profiles: Profiles) -> Vec<u8> {
+    let profile = profiles.any(rng);
+    let [cores, first, mut second] = any_counts(rng);
+    if profile == Profile::D && rng.chance(80) {
+        second = 0;
+    }
     let mut line = Vec::new();
-    put_header(&mut line, b'T', [cores, first, second, edge_counter(rng)]);
+    let numbers = [cores, first, second, edge_counter(rng)];
+    put_header(&mut line, profile.letter(), numbers);
     line
 }
 
@@ -166,7 +206,7 @@ pub fn put(script: &mut Vec<u8>, from: usize, to: usize, bytes: &[u8]) {
 }
 
 /// Does nothing where the script has no place for this kind of damage.
-pub fn damage(rng: &mut Rng, kind: Kind, script: &mut Vec<u8>) {
+pub fn damage(rng: &mut Rng, kind: Kind, script: &mut Vec<u8>, profiles: Profiles) {
     // Often near the end, where a script may also just stop.
     let near = |rng: &mut Rng, length: usize| {
         if rng.chance(25) {
@@ -188,14 +228,14 @@ pub fn damage(rng: &mut Rng, kind: Kind, script: &mut Vec<u8>) {
         Kind::Replaced => {
             let at = near(rng, script.len());
             script[at] = if rng.chance(90) {
-                rng.pick(&BYTES)
+                rng.pick(bytes_of(profiles))
             } else {
                 rng.draw() as u8
             };
         }
         Kind::Inserted => {
             let at = rng.index(script.len() + 1);
-            let byte = rng.pick(&BYTES);
+            let byte = rng.pick(bytes_of(profiles));
             put(script, at, at, &[byte]);
         }
         Kind::Deleted => {
@@ -240,7 +280,7 @@ pub fn damage(rng: &mut Rng, kind: Kind, script: &mut Vec<u8>) {
             } else {
                 any_line(rng)
             };
-            let line = any_header(rng);
+            let line = any_header(rng, profiles);
             put(script, at, at, &line);
         }
         Kind::LeadingZero | Kind::Sign | Kind::TooLarge => {
@@ -322,7 +362,8 @@ pub fn damage(rng: &mut Rng, kind: Kind, script: &mut Vec<u8>) {
                 .iter()
                 .position(|b| *b == b'\n')
                 .map_or(script.len(), |at| at + 1);
-            let line = if kind == Kind::CountsOut {
+            let profile = profiles.any(rng);
+            let mut line = if kind == Kind::CountsOut {
                 let mut numbers = any_counts(rng);
                 for _ in 0..rng.within(1, 2) {
                     let at = rng.index(3);
@@ -380,6 +421,10 @@ pub fn damage(rng: &mut Rng, kind: Kind, script: &mut Vec<u8>) {
                 .as_bytes()
                 .to_vec()
             };
+            if profile == Profile::D {
+                let letters = line.iter_mut().filter(|byte| **byte == b'T');
+                letters.for_each(|byte| *byte = b'D');
+            }
             put(script, 0, end, &line);
         }
         Kind::Letter => {

@@ -3,6 +3,7 @@
 
 use std::collections::BTreeMap;
 
+use crate::make::Profiles;
 use crate::rng::Rng;
 use crate::table::{compare, older, Comparison, Next, Register, Table, Unit, MAX_UNITS};
 use crate::words;
@@ -21,9 +22,30 @@ const OFF: [&str; 8] = [
 /// Tickets that may have no oldest.
 pub const DISORDERS: [&str; 3] = ["circle", "same", "opposite"];
 
-/// The kinds that a long run has to put.
-pub fn needed() -> Vec<String> {
+/// The kinds that a long run has to put. Small letters are cases of profile D, of whose
+/// images fewer kinds are asked: nothing in them is by the profile but 20.
+pub fn needed(profiles: Profiles) -> Vec<String> {
     let mut kinds = Vec::new();
+    if profiles == Profiles::Both {
+        for letter in ["s", "m"] {
+            kinds.push(format!("{letter} right"));
+            kinds.extend(OFF.map(|off| format!("{letter} {off}")));
+            kinds.extend(DISORDERS.map(|disorder| format!("{letter} {disorder}")));
+        }
+        let images = [
+            "i right",
+            "i without",
+            "i missing",
+            "i ticket",
+            "i younger",
+            "o right",
+            "o without",
+            "o missing",
+            "o ticket",
+            "o younger",
+        ];
+        kinds.extend(images.map(String::from));
+    }
     for letter in ["S", "M", "O"] {
         kinds.push(format!("{letter} right"));
         kinds.extend(OFF.map(|off| format!("{letter} {off}")));
@@ -331,13 +353,18 @@ fn word_off(word: u32, registers: &[Register]) -> Option<&'static str> {
 }
 
 /// Counts an image to read. The counts have to be in range.
-pub fn count_reading(kinds: &mut Kinds, [cores, first, second]: [u16; 3], image: &[u32]) {
+pub fn count_reading(
+    kinds: &mut Kinds,
+    letter: char,
+    [cores, first, second]: [u16; 3],
+    image: &[u32],
+) {
     let (cores, units) = (cores as usize, (first + second) as usize);
     let read = |words: &[u32]| -> Option<Vec<Register>> {
         words.iter().map(|word| words::unpack(*word)).collect()
     };
     if image.len() == units * cores && read(image).is_some() {
-        return count(kinds, 'I', "without");
+        return count(kinds, letter, "without");
     }
     if image.len() != units * (cores + 1) {
         return;
@@ -358,16 +385,17 @@ pub fn count_reading(kinds: &mut Kinds, [cores, first, second]: [u16; 3], image:
     let right = |lines: &[(Vec<Register>, Option<&str>)]| lines.iter().all(|l| l.1.is_none());
     let after = split(false);
     if !after.as_deref().is_some_and(right) && split(true).as_deref().is_some_and(right) {
-        return count(kinds, 'I', "before");
+        return count(kinds, letter, "before");
     }
     if let Some(lines) = after {
-        count_lines(kinds, 'I', lines.iter().map(|(r, off)| (&r[..], *off)));
+        count_lines(kinds, letter, lines.iter().map(|(r, off)| (&r[..], *off)));
     }
 }
 
 /// Counts units to write. The counts have to be in range.
 pub fn count_writing(
     kinds: &mut Kinds,
+    letter: char,
     [cores, first, second]: [u16; 3],
     room: u16,
     units: &[Unit; MAX_UNITS],
@@ -387,20 +415,20 @@ pub fn count_writing(
     });
     let right = lines.clone().all(|(_, off)| off.is_none());
     if right && room as usize == count_of * cores {
-        return count(kinds, 'O', "without");
+        return count(kinds, letter, "without");
     }
     if room as usize != count_of * (cores + 1) {
         return;
     }
     let by_all = |unit: &Unit| unit.next == Next::of(&unit.registers);
     if right && !inside.iter().all(by_all) {
-        count(kinds, 'O', "right, another past the cores");
+        count(kinds, letter, "right, another past the cores");
     }
     if right && !units[count_of..].iter().all(by_all) {
-        count(kinds, 'O', "right, wrong past the units");
+        count(kinds, letter, "right, wrong past the units");
     }
     if !right && inside.iter().all(by_all) {
-        return count(kinds, 'O', "right by cores past");
+        return count(kinds, letter, "right by cores past");
     }
-    count_lines(kinds, 'O', lines);
+    count_lines(kinds, letter, lines);
 }

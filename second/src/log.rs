@@ -115,7 +115,7 @@ pub fn log_of(script: &[u8], columns: &[u8]) -> Vec<u8> {
     for (line, answer) in lines.zip(answers) {
         match answer[0] {
             b'X' => break,
-            b'E' => log.extend_from_slice(line),
+            b'E' | b'F' => log.extend_from_slice(line),
             _ => {
                 let step = line.strip_suffix(b"\n").unwrap_or(line);
                 let number = answer.iter().take_while(|byte| **byte != b'\t').count();
@@ -130,7 +130,7 @@ pub fn log_of(script: &[u8], columns: &[u8]) -> Vec<u8> {
 #[cfg(test)]
 mod tests {
     use super::*;
-    use crate::make::Maker;
+    use crate::make::{Maker, Profiles};
     use crate::rng::Rng;
     use crate::translate::translate;
     use std::fs;
@@ -187,7 +187,7 @@ mod tests {
         assert_eq!(log_of(b"T\t9", b"X\t22\n"), b"");
         for stream in 0..200 {
             let mut script = Vec::new();
-            Maker::any(Rng::new(4, stream)).put_script(&mut script, 300);
+            Maker::any(Rng::new(4, stream), Profiles::Both).put_script(&mut script, 300);
             let log = log_of(&script, &columns(&script));
             assert_eq!(check(&log), (0, 300, 0));
         }
@@ -342,6 +342,8 @@ mod tests {
             "T 33 1 0 0",
             "T 1 1 0 0 0",
             "E 1 1 0 0",
+            "F 1 1 0 0",
+            "D 1 1 1 0",
             "P 0 12 0 0",
             "T 1 1 0 0 12 0 0 0",
         ] {

@@ -2,10 +2,10 @@
 
 use crate::damage;
 use crate::log::log_of;
-use crate::make::Maker;
+use crate::make::{Maker, Profiles};
 use crate::rng::Rng;
 use crate::script::put_step;
-use crate::table::{Kind as Letter, Step, Table};
+use crate::table::{Kind as Letter, Profile, Step, Table};
 use crate::translate::translate;
 
 #[derive(Clone, Copy, PartialEq, Eq, Debug)]
@@ -57,29 +57,36 @@ const SAMPLE: &[u8] = b"T\t3\t1\t1\t65535\nR\t0\t0\t0\t65535\t1\t0\t0\nP\t0\t1\t
     N\t0\t1\t0\t65535\t1\t1\t0\nR\t1\t0\t0\t0\t0\nR\t2\t1\t0\t1\t0\nP\t2\t2\t1\t0\n\
     C\t10\t10\t0\t0\nI\t0\t0\t65535\t2\t0\t1\t1\t2\n";
 
-/// The log of this number in the list of single damages to the sample. None past
-/// the list.
-pub fn listed(number: usize) -> Option<(Kind, Vec<u8>)> {
-    let (kind, log) = damage::listed_of(SAMPLE, number)?;
+/// The same for profile D: one and two dropped before a grant and without one, and
+/// cores that come back, in line or with a new ticket.
+const SAMPLE_D: &[u8] = b"D\t4\t1\t0\t65534\nR\t0\t0\t0\t65534\t1\t0\t0\nR\t1\t0\t0\t65535\t0\n\
+    R\t2\t0\t0\t0\t0\nR\t3\t0\t0\t1\t0\nI\t1\t0\t65535\t0\nP\t3\t2\t1\t0\nI\t2\t0\t0\t0\n\
+    I\t0\t0\t65534\t1\t0\t3\nC\t1\t0\t2\t0\nI\t1\t0\t2\t0\nC\t1\t0\t2\t0\nI\t1\t0\t2\t0\n\
+    P\t3\t1\t1\t0\nI\t3\t14\t0\t0\nL\t3\t0\t1\t0\nC\t0\t0\t3\t1\t0\t0\nC\t3\t12\t0\t0\n";
+
+/// The log of this number in the list of single damages to the sample, or to both
+/// samples by turns. None past the list.
+pub fn listed(number: usize, profiles: Profiles) -> Option<(Kind, Vec<u8>)> {
+    let (kind, log) = damage::listed_of([SAMPLE, SAMPLE_D], number, profiles)?;
     Some((Kind::Script(kind), log))
 }
 
 /// A log of a few lines, most of them damaged.
-pub fn small(rng: &mut Rng) -> (Kind, Vec<u8>) {
+pub fn small(rng: &mut Rng, profiles: Profiles) -> (Kind, Vec<u8>) {
     let log = if rng.chance(30) {
         let steps = rng.within(0, 5);
-        made(rng, steps, true)
+        made(rng, steps, true, profiles)
     } else {
         let steps = rng.within(0, 12);
-        made(rng, steps, false)
+        made(rng, steps, false, profiles)
     };
-    damaged(rng, log, 12)
+    damaged(rng, log, 12, profiles)
 }
 
 /// A log of many lines, though of at most so many steps; every second is whole.
-pub fn long(rng: &mut Rng, most: u64) -> (Kind, Vec<u8>) {
+pub fn long(rng: &mut Rng, most: u64, profiles: Profiles) -> (Kind, Vec<u8>) {
     let steps = rng.within(1, STEPS_LONG).min(most);
-    let mut log = made(rng, steps, false);
+    let mut log = made(rng, steps, false, profiles);
     if log.len() > BYTES_MAX {
         // With its last line whole or cut off.
         log.truncate(BYTES_MAX);
@@ -88,18 +95,23 @@ pub fn long(rng: &mut Rng, most: u64) -> (Kind, Vec<u8>) {
             log.truncate(end.expect("a header") + 1);
         }
     }
-    let (kind, mut log) = damaged(rng, log, 50);
+    let (kind, mut log) = damaged(rng, log, 50, profiles);
     log.truncate(BYTES_MAX);
     (kind, log)
 }
 
-/// The log of a made script, which may open with a step that gives two grants.
-fn made(rng: &mut Rng, steps: u64, opening: bool) -> Vec<u8> {
-    let mut maker = Maker::any(Rng::new(rng.draw(), 0));
+/// The log of a made script, which may open with a step that gives two grants, in D
+/// with one that drops cores.
+fn made(rng: &mut Rng, steps: u64, opening: bool, profiles: Profiles) -> Vec<u8> {
+    let mut maker = Maker::any(Rng::new(rng.draw(), 0), profiles);
     let mut script = Vec::new();
     maker.put_header(&mut script);
     if opening {
-        for step in two_grants(rng, &maker.table) {
+        let steps = match maker.table.profile {
+            Profile::T => two_grants(rng, &maker.table),
+            Profile::D => drops(rng, &maker.table),
+        };
+        for step in steps {
             maker.make(step);
             put_step(&mut script, step);
         }
@@ -139,8 +151,34 @@ fn two_grants(rng: &mut Rng, table: &Table) -> Vec<Step> {
     steps
 }
 
+/// Cores stand in line at a unit, and all but the last or all go away; then the one
+/// that has the unit gives it up, and some come back.
+fn drops(rng: &mut Rng, table: &Table) -> Vec<Step> {
+    let step = |kind, core: u64, unit| Step {
+        kind,
+        core: (core % table.cores as u64) as u16,
+        unit,
+    };
+    let from = rng.below(table.cores as u64);
+    let count = rng.within(0, 3).min(table.cores as u64 - 1);
+    let unit = rng.below(table.first_class as u64) as u16;
+    let requests = (0..=count).map(|c| step(Letter::Request, from + c, unit));
+    let mut steps: Vec<Step> = requests.collect();
+    let away = if rng.chance(70) { count } else { count + 1 };
+    steps.extend((1..away).map(|c| step(Letter::Interrupt, from + c, 0)));
+    if rng.chance(50) {
+        steps.push(step(Letter::Interrupt, from, 0));
+    } else {
+        let ends = [Letter::Poll, Letter::Leave];
+        steps.extend(ends.map(|kind| step(kind, from, 0)));
+    }
+    let back = rng.below(away + 1);
+    steps.extend((0..back).map(|c| step(Letter::Continue, from + c, 0)));
+    steps
+}
+
 /// Leaves the log whole so many times in a hundred.
-fn damaged(rng: &mut Rng, mut log: Vec<u8>, whole: u64) -> (Kind, Vec<u8>) {
+fn damaged(rng: &mut Rng, mut log: Vec<u8>, whole: u64, profiles: Profiles) -> (Kind, Vec<u8>) {
     let kind = if rng.chance(whole) {
         Kind::Whole
     } else if rng.chance(5) {
@@ -151,11 +189,12 @@ fn damaged(rng: &mut Rng, mut log: Vec<u8>, whole: u64) -> (Kind, Vec<u8>) {
     if kind == Kind::Several {
         for _ in 0..rng.within(2, 4) {
             let kind = any_kind(rng);
-            damage(rng, kind, &mut log);
+            damage(rng, kind, &mut log, profiles);
         }
     } else {
-        damage(rng, kind, &mut log);
+        damage(rng, kind, &mut log, profiles);
     }
+    profiles.keep(&mut log);
     (kind, log)
 }
 
@@ -173,7 +212,7 @@ fn any_kind(rng: &mut Rng) -> Kind {
 }
 
 /// Does nothing where the log has no place for this kind of damage.
-fn damage(rng: &mut Rng, kind: Kind, log: &mut Vec<u8>) {
+fn damage(rng: &mut Rng, kind: Kind, log: &mut Vec<u8>, profiles: Profiles) {
     match kind {
         Kind::Whole | Kind::Several => {}
         Kind::ByOne | Kind::AnyNumber | Kind::FieldRemoved | Kind::FieldAdded | Kind::StepAlone => {
@@ -200,7 +239,7 @@ fn damage(rng: &mut Rng, kind: Kind, log: &mut Vec<u8>) {
         }
         Kind::LongLine => put_long_line(rng, log),
         Kind::LongHeader => put_long_header(rng, log),
-        Kind::Script(kind) => damage::damage(rng, kind, log),
+        Kind::Script(kind) => damage::damage(rng, kind, log, profiles),
     }
 }
 
@@ -375,20 +414,28 @@ mod tests {
     #[test]
     fn the_sample_agrees() {
         assert_eq!(check(SAMPLE), (0, 8, 0));
-        let count = (0..).take_while(|number| listed(*number).is_some()).count();
-        assert_eq!(count, SAMPLE.len() * 98);
+        let listed = |number: &usize| listed(*number, Profiles::T).is_some();
+        assert_eq!((0..).take_while(listed).count(), SAMPLE.len() * 98);
+        assert_eq!(check(SAMPLE_D), (0, 17, 0));
     }
 
     #[test]
     fn whole_logs_agree_and_others_meet_every_stop() {
+        for profiles in [Profiles::T, Profiles::Both] {
+            meet_every_stop(profiles);
+        }
+    }
+
+    fn meet_every_stop(profiles: Profiles) {
         let mut rng = Rng::new(6, 0);
         let mut met = BTreeSet::new();
         for number in 0..6_000 {
             let (kind, log) = if number % 200 == 0 {
-                long(&mut rng, 10_000)
+                long(&mut rng, 10_000, profiles)
             } else {
-                small(&mut rng)
+                small(&mut rng, profiles)
             };
+            assert!(profiles == Profiles::Both || check(&log) == check(&t(&log)));
             let (number, line, field) = check(&log);
             if kind == Kind::Whole {
                 let cut = log.last() != Some(&b'\n');
@@ -400,6 +447,15 @@ mod tests {
         let fields = (3..=10).map(|field| (40, field));
         let all = [0, 20, 21, 22].map(|number| (number, 0));
         assert_eq!(met, all.into_iter().chain(fields).collect());
+    }
+
+    /// As it is read where `D` is no header's letter.
+    fn t(log: &[u8]) -> Vec<u8> {
+        let mut log = log.to_vec();
+        if log.first() == Some(&b'D') {
+            log[0] = b'?';
+        }
+        log
     }
 
     #[test]

@@ -1,9 +1,38 @@
 //! Seeded scripts. The maker keeps a table of its own, so that most steps it
 //! chooses are allowed ones and waits, inheriting and interrupts happen often.
 
+use std::collections::BTreeMap;
+
 use crate::rng::Rng;
-use crate::script::{put_header, put_step};
-use crate::table::{older, Core, Kind, Outcome, State, Step, Table};
+use crate::script::{put_header, put_step, read_header};
+use crate::table::{older, Core, Kind, Outcome, Profile, State, Step, Table};
+
+/// Which profiles are made.
+#[derive(Clone, Copy, PartialEq, Eq, Debug)]
+pub enum Profiles {
+    /// T alone.
+    T,
+    /// Each half the time.
+    Both,
+}
+
+impl Profiles {
+    /// Draws nothing where there is no choice.
+    pub fn any(self, rng: &mut Rng) -> Profile {
+        match self {
+            Profiles::Both if rng.chance(50) => Profile::D,
+            _ => Profile::T,
+        }
+    }
+
+    /// A header that damage has made one of another profile is made one of T again.
+    pub fn keep(self, script: &mut [u8]) {
+        let other = |table: &Table| table.profile != Profile::T;
+        if self == Profiles::T && read_header(script).is_ok_and(|(table, _)| other(&table)) {
+            script[0] = b'T';
+        }
+    }
+}
 
 /// What happened in made scripts, beyond letters and answers.
 #[derive(Clone, Default, Debug)]
@@ -19,7 +48,27 @@ pub struct Seen {
     pub unpolled_interrupts: u64,
     pub returns: u64,
     pub two_grants: u64,
+    /// Requests refused with 15 in T.
+    pub stretched: u64,
+    /// What profile D alone has, by the names of `DEQUEUEING`.
+    pub dequeueing: BTreeMap<&'static str, u64>,
 }
+
+/// What happens in scripts of profile D, all of which a long run has to meet.
+pub const DEQUEUEING: [&str; 12] = [
+    "one dropped",
+    "two dropped",
+    "more dropped",
+    "dropped before a grant",
+    "dropped and no grant",
+    "dropped past the wrap",
+    "interrupts in line",
+    "interrupts with the flag",
+    "back in line",
+    "back with a new ticket",
+    "15 at C",
+    "15 at R",
+];
 
 impl Seen {
     pub fn add(&mut self, other: &Seen) {
@@ -31,6 +80,51 @@ impl Seen {
         self.unpolled_interrupts += other.unpolled_interrupts;
         self.returns += other.returns;
         self.two_grants += other.two_grants;
+        self.stretched += other.stretched;
+        for (name, count) in &other.dequeueing {
+            *self.dequeueing.entry(name).or_default() += count;
+        }
+    }
+
+    /// One step of a script in D, made by this core.
+    fn count_dequeueing(&mut self, step: Step, outcome: &Outcome, before: &Table, after: &Table) {
+        let mut count = |name| *self.dequeueing.entry(name).or_default() += 1;
+        match (step.kind, outcome.answer) {
+            (Kind::Request, 15) => count("15 at R"),
+            (Kind::Continue, 15) => count("15 at C"),
+            _ => {}
+        }
+        if outcome.answer > 2 {
+            return;
+        }
+        let c = step.core as usize;
+        match step.kind {
+            Kind::Interrupt if after.live(c) => count("interrupts in line"),
+            Kind::Interrupt => count("interrupts with the flag"),
+            Kind::Continue if before.live(c) => count("back in line"),
+            Kind::Continue => count("back with a new ticket"),
+            _ => {}
+        }
+        if !matches!(step.kind, Kind::Interrupt | Kind::Leave) {
+            return;
+        }
+        let cores = (0..before.cores as usize).filter(|d| *d != c);
+        let dropped = cores.filter(|d| before.live(*d) && !after.live(*d));
+        let dropped: Vec<u16> = dropped.map(|d| before.core[d].own).collect();
+        match dropped.len() {
+            0 => return,
+            1 => count("one dropped"),
+            2 => count("two dropped"),
+            _ => count("more dropped"),
+        }
+        if outcome.granted > 0 {
+            count("dropped before a grant");
+        } else {
+            count("dropped and no grant");
+        }
+        if dropped.iter().any(|ticket| *ticket > before.counter) {
+            count("dropped past the wrap");
+        }
     }
 }
 
@@ -45,6 +139,8 @@ struct Stretch {
     /// the other cores leave alone.
     runner: usize,
     unit: u16,
+    /// In D: cores that are dropped come back only once a ticket lies there.
+    dropped_stay: bool,
 }
 
 /// Percentages that part scripts from each other.
@@ -60,6 +156,8 @@ struct Habits {
     aim: u64,
     /// Turns of an idle core at which it stays idle.
     rest: u64,
+    /// Turns of a core that is away at which it comes back.
+    back: u64,
 }
 
 pub struct Maker {
@@ -113,19 +211,29 @@ pub fn any_counts(rng: &mut Rng) -> [u16; 3] {
 }
 
 impl Maker {
-    /// A script for these counts, which have to be in range.
-    pub fn new(mut rng: Rng, counts: [u16; 3], counter: u16) -> Maker {
-        let habits = Habits {
+    /// A script of profile T for these counts, which have to be in range.
+    pub fn new(rng: Rng, counts: [u16; 3], counter: u16) -> Maker {
+        Maker::new_in(Profile::T, rng, counts, counter)
+    }
+
+    /// In D the second-class units are left out.
+    pub fn new_in(profile: Profile, mut rng: Rng, mut counts: [u16; 3], counter: u16) -> Maker {
+        let mut habits = Habits {
             wild: rng.pick(&[0, 2, 2, 5, 10, 40]),
             interrupt: rng.pick(&[3, 10, 20, 40]),
             crowd: rng.pick(&[0, 30, 60, 90]),
             nest: rng.pick(&[40, 80, 95]),
             aim: rng.pick(&[0, 30, 60]),
             rest: 0,
+            back: 60,
         };
+        if profile == Profile::D {
+            counts[2] = 0;
+            habits.back = rng.pick(&[60, 30, 10, 3]);
+        }
         Maker {
             rng,
-            table: Table::fresh(counts[0], counts[1], counts[2], counter).expect("counts in range"),
+            table: Table::fresh_in(profile, counts, counter).expect("counts in range"),
             start: counter,
             habits,
             stretch: None,
@@ -134,10 +242,28 @@ impl Maker {
         }
     }
 
-    pub fn any(mut rng: Rng) -> Maker {
+    pub fn any(mut rng: Rng, profiles: Profiles) -> Maker {
+        let profile = profiles.any(&mut rng);
+        Maker::any_in(profile, rng)
+    }
+
+    pub fn any_in(profile: Profile, mut rng: Rng) -> Maker {
         let counts = any_counts(&mut rng);
+        let mut counter = edge_counter(&mut rng);
+        if profile == Profile::D && rng.chance(40) {
+            // Tickets on both sides of the wrap stand in one line.
+            counter = 65_535 - rng.below(40) as u16;
+        }
+        Maker::new_in(profile, rng, counts, counter)
+    }
+
+    /// A script of D with units and cores enough for a stretch beside a line: in D a
+    /// core that has a ticket stands at some unit.
+    pub fn any_roomy(mut rng: Rng) -> Maker {
+        let [cores, first_class, _] = any_counts(&mut rng);
+        let counts = [cores.max(5), first_class.max(3), 0];
         let counter = edge_counter(&mut rng);
-        Maker::new(rng, counts, counter)
+        Maker::new_in(Profile::D, rng, counts, counter)
     }
 
     /// Habits that do not follow from the seed: a mix of all steps, few refused.
@@ -149,6 +275,10 @@ impl Maker {
             nest: 80,
             aim: 20,
             rest: 0,
+            back: match self.table.profile {
+                Profile::T => 60,
+                Profile::D => 25,
+            },
         };
         self
     }
@@ -170,7 +300,7 @@ impl Maker {
         let table = &self.table;
         put_header(
             script,
-            b'T',
+            table.profile.letter(),
             [
                 table.cores,
                 table.first_class,
@@ -213,7 +343,11 @@ impl Maker {
             return self.wild_step();
         }
         if self.rng.chance(self.habits.aim) {
-            if let Some(step) = self.aimed_step() {
+            let aimed = match self.table.profile {
+                Profile::T => self.aimed_step(),
+                Profile::D => self.dropping_step(),
+            };
+            if let Some(step) = aimed {
                 return step;
             }
         }
@@ -226,9 +360,20 @@ impl Maker {
         let before = self.table.core.get(c).copied().unwrap_or_default();
         let flagged =
             before.state == State::Waiting && self.table.unit[before.first as usize][c].flag;
+        let outcome = if self.table.profile == Profile::D {
+            let whole = self.table.clone();
+            let outcome = self.table.step(step);
+            let seen = &mut self.seen;
+            seen.count_dequeueing(step, &outcome, &whole, &self.table);
+            outcome
+        } else {
+            let outcome = self.table.step(step);
+            self.seen.stretched += (outcome.answer == 15) as u64;
+            outcome
+        };
         let Outcome {
             answer, granted, ..
-        } = self.table.step(step);
+        } = outcome;
         if answer > 2 {
             return;
         }
@@ -362,6 +507,37 @@ impl Maker {
         oust.and_then(|a| step(Kind::Interrupt, a, 0))
     }
 
+    /// The next step on the way to cores that are dropped at some unit: the oldest in
+    /// line that is not away goes away, until some number of them are; then the core
+    /// that has the unit gives it up.
+    fn dropping_step(&mut self) -> Option<Step> {
+        let table = &self.table;
+        let units = table.units() as usize;
+        let offset = self.rng.index(units);
+        let mut shown = (0..units).map(|u| &table.unit[(u + offset) % units]);
+        let unit = shown.find(|unit| unit.next.valid)?;
+        let cores = 0..table.cores as usize;
+        let mut line: Vec<usize> = cores.clone().filter(|c| unit[*c].waits()).collect();
+        line.sort_by_key(|c| u16::MAX - table.counter.wrapping_sub(unit[*c].ticket));
+        let is_away = |c: &&usize| table.core[**c].state.is_away();
+        let away = line.iter().take_while(is_away).count();
+        let wanted = self.rng.pick(&[1, 2, 2, 3, 4, line.len()]).min(line.len());
+        let (kind, c) = if away < wanted {
+            (Kind::Interrupt, line[away])
+        } else {
+            let holder = cores.clone().find(|c| unit[*c].flag)?;
+            match table.core[holder].state {
+                State::Holding => (Kind::Leave, holder),
+                _ => (self.rng.pick(&[Kind::Interrupt, Kind::Poll]), holder),
+            }
+        };
+        Some(Step {
+            kind,
+            core: c as u16,
+            unit: 0,
+        })
+    }
+
     /// An allowed step of this core, and whether to make it rather than let the
     /// core stay longer where it is.
     fn step_of(&mut self, c: usize) -> (Step, bool) {
@@ -395,7 +571,9 @@ impl Maker {
             }
             State::Holding => (Kind::Leave, true),
             State::HoldingBoth => (Kind::Leave, self.rng.chance(60)),
-            State::Away => (Kind::Continue, self.rng.chance(60)),
+            State::Away | State::Marked | State::Dropped => {
+                (Kind::Continue, self.rng.chance(self.habits.back))
+            }
         };
         (
             Step {
@@ -434,12 +612,9 @@ impl Maker {
 
     /// How far the furthest live ticket lies behind the counter.
     fn span(&self) -> u16 {
-        let live = self
-            .table
-            .core
-            .iter()
-            .filter(|core| core.state != State::Idle);
-        live.map(|core| self.table.counter.wrapping_sub(core.own))
+        let table = &self.table;
+        let live = (0..table.cores as usize).filter(|c| table.live(*c));
+        live.map(|c| table.counter.wrapping_sub(table.core[c].own))
             .max()
             .unwrap_or(0)
     }
@@ -452,10 +627,12 @@ impl Maker {
             0
         };
         if let Some(stretch) = &mut self.stretch {
-            if span < stretch.distance {
+            // In D a core that is left alone may be dropped.
+            let live = self.table.live(stretch.core);
+            if live && span < stretch.distance {
                 return;
             }
-            if stretch.patience > 0 {
+            if live && stretch.patience > 0 {
                 stretch.patience -= 1;
                 return;
             }
@@ -477,9 +654,10 @@ impl Maker {
             .registers
             .iter()
             .all(|register| !register.valid);
-        let states = (self.table.core[core].state, self.table.core[runner].state);
-        if states.0 != State::Idle && states.1 == State::Idle && free {
+        let idle = self.table.core[runner].state == State::Idle;
+        if self.table.live(core) && idle && free {
             let to_the_end = self.rng.chance(60);
+            let dropped_stay = self.table.profile == Profile::D && self.rng.chance(80);
             self.stretch = Some(Stretch {
                 core,
                 distance: if to_the_end {
@@ -494,6 +672,7 @@ impl Maker {
                 },
                 runner,
                 unit,
+                dropped_stay,
             });
         }
     }
@@ -502,10 +681,47 @@ impl Maker {
     /// another core that leaves the stretched one, the runner and its unit alone.
     fn stretch_step(&mut self, stretch: &Stretch) -> Step {
         let reached = self.span() >= stretch.distance;
+        if !reached && stretch.dropped_stay && self.rng.chance(2) {
+            // One that has a flag and has not polled, so that some core is dropped.
+            let table = &self.table;
+            let fits = |c: &usize| {
+                let core = &table.core[*c];
+                *c != stretch.core
+                    && *c != stretch.runner
+                    && core.state == State::Waiting
+                    && table.unit[core.first as usize][*c].flag
+            };
+            if let Some(c) = (0..table.cores as usize).find(fits) {
+                return Step {
+                    kind: Kind::Interrupt,
+                    core: c as u16,
+                    unit: 0,
+                };
+            }
+        }
+        if reached && stretch.dropped_stay && self.rng.chance(20) {
+            let table = &self.table;
+            let fits = |c: &usize| {
+                let core = &table.core[*c];
+                core.state == State::Dropped && core.first != stretch.unit
+            };
+            if let Some(c) = (0..table.cores as usize).find(fits) {
+                return Step {
+                    kind: Kind::Continue,
+                    core: c as u16,
+                    unit: 0,
+                };
+            }
+        }
         if self.rng.chance(if reached { 50 } else { 4 }) {
             for _ in 0..8 {
                 let step = self.free_step();
                 let c = step.core as usize;
+                let dropped = c < self.table.cores as usize && !self.table.live(c);
+                let back = step.kind == Kind::Continue && dropped;
+                if stretch.dropped_stay && !reached && back {
+                    continue;
+                }
                 let enters = match step.kind {
                     Kind::Request | Kind::Nest => step.unit,
                     Kind::Continue => self.table.core.get(c).map_or(0, |core| core.first),
@@ -539,10 +755,12 @@ mod tests {
     #[test]
     fn reached_tables_are_sound() {
         for stream in 0..300 {
-            let mut maker = Maker::any(Rng::new(1, stream));
-            for _ in 0..300 {
-                maker.next_step();
-                assert!(maker.table.sound(), "{:?}", maker.table);
+            for profile in Profile::BOTH {
+                let mut maker = Maker::any_in(profile, Rng::new(1, stream));
+                for _ in 0..300 {
+                    maker.next_step();
+                    assert!(maker.table.sound(), "{:?}", maker.table);
+                }
             }
         }
     }
@@ -551,7 +769,7 @@ mod tests {
     fn what_matters_happens() {
         let mut seen = Seen::default();
         for stream in 0..200 {
-            let mut maker = Maker::any(Rng::new(2, stream));
+            let mut maker = Maker::any(Rng::new(2, stream), Profiles::T);
             for _ in 0..500 {
                 maker.next_step();
             }
@@ -577,5 +795,118 @@ mod tests {
             .lines()
             .any(|line| line.split('\t').nth(1) == Some("15")));
         assert_eq!(text.lines().count(), 400_001);
+    }
+
+    /// Half the scripts are of D, and all that D alone has is in them.
+    #[test]
+    fn dequeueing_happens() {
+        let mut seen = Seen::default();
+        let mut scripts = 0;
+        for stream in 0..400 {
+            let mut maker = Maker::any(Rng::new(2, stream), Profiles::Both);
+            scripts += (maker.table.profile == Profile::D) as u32;
+            for _ in 0..500 {
+                maker.next_step();
+            }
+            seen.add(&maker.seen);
+        }
+        assert!((150..250).contains(&scripts));
+        for name in &DEQUEUEING[..10] {
+            let count = seen.dequeueing.get(name).copied().unwrap_or_default();
+            assert!(count > 10, "{name}: {count}");
+        }
+    }
+
+    #[test]
+    fn stretches_reach_refusal_15_in_both_ways_of_d() {
+        let counts = [8, 4, 0];
+        let maker = Maker::new_in(Profile::D, Rng::new(3, 0), counts, 65_000);
+        let mut maker = maker.steady().stretching();
+        let (mut script, mut out) = (Vec::new(), Vec::new());
+        maker.put_script(&mut script, 800_000);
+        translate(&script[..], &mut out).unwrap();
+        assert!(out.starts_with(b"F\t8\t4\t0\t65000\n"));
+        for name in DEQUEUEING {
+            let count = maker.seen.dequeueing.get(name).copied();
+            assert!(count > Some(3), "{name}: {count:?}");
+        }
+    }
+
+    /// In D whoever has a unit's flag has an earlier ticket than all in line. So a core
+    /// that is not granted at its entry, by R or C, is passed by fewer cores than
+    /// earlier tickets were live then: by one less at most, which is met.
+    #[test]
+    fn passed() {
+        let (mut most_met, mut by_return) = (0, 0);
+        for stream in 0..300 {
+            let mut maker = Maker::any_in(Profile::D, Rng::new(7, stream));
+            // By core: the number of its ticket among all issued; earlier ones live at
+            // its entry, grants of its unit since, and whether it entered by C.
+            let mut issued = vec![0u32; maker.table.cores as usize];
+            let mut open: Vec<Option<(u32, u32, bool)>> = vec![None; issued.len()];
+            let mut count = 0;
+            for _ in 0..400 {
+                let counter = maker.table.counter;
+                let before = maker.table.clone();
+                let step = maker.next_step();
+                let table = &maker.table;
+                let c = step.core as usize;
+                if table.counter != counter {
+                    count += 1;
+                    issued[c] = count;
+                }
+                for (u, unit) in table.unit.iter().enumerate() {
+                    let granted = |d: &usize| unit[*d].flag && !before.unit[u][*d].flag;
+                    let Some(d) = (0..issued.len()).find(granted) else {
+                        continue;
+                    };
+                    if let Some((earlier, passed, by_c)) = open[d].take() {
+                        assert!(passed < earlier);
+                        most_met += (passed + 1 == earlier && passed > 1) as u32;
+                        by_return += (passed + 1 == earlier && by_c) as u32;
+                    }
+                    for e in 0..issued.len() {
+                        if let Some((earlier, passed, _)) = &mut open[e] {
+                            if table.core[e].first as usize == u {
+                                assert!(issued[d] < issued[e]);
+                                *passed += 1;
+                                assert!(*passed < *earlier);
+                            }
+                        }
+                    }
+                }
+                if c >= issued.len() || before == *table {
+                    continue;
+                }
+                match step.kind {
+                    Kind::Interrupt => open[c] = None,
+                    Kind::Request | Kind::Continue
+                        if !table.unit[table.core[c].first as usize][c].flag =>
+                    {
+                        let live = (0..issued.len()).filter(|d| table.live(*d));
+                        let earlier = live.filter(|d| issued[*d] < issued[c]).count();
+                        open[c] = Some((earlier as u32, 0, step.kind == Kind::Continue));
+                    }
+                    _ => {}
+                }
+            }
+        }
+        assert!(most_met > 50 && by_return > 50, "{most_met} {by_return}");
+    }
+
+    #[test]
+    fn kept_to_t() {
+        for (text, kept) in [
+            ("D\t1\t1\t0\t0\nP\t0\n", b'T'),
+            ("D\t1\t1\t1\t0\n", b'D'),
+            ("T\t1\t1\t0\t0\n", b'T'),
+        ] {
+            let mut script = text.as_bytes().to_vec();
+            Profiles::Both.keep(&mut script);
+            assert_eq!(script, text.as_bytes());
+            Profiles::T.keep(&mut script);
+            assert_eq!(script[0], kept);
+            assert_eq!(script[1..], text.as_bytes()[1..]);
+        }
     }
 }

@@ -1,6 +1,6 @@
 //! Reading script lines and writing script and answer lines.
 
-use crate::table::{Kind, Outcome, Step, Table};
+use crate::table::{Kind, Outcome, Profile, Step, Table};
 
 /// No line is longer, its end counted.
 pub const LINE_MAX: usize = 15;
@@ -73,18 +73,14 @@ fn step_line(bytes: &[u8]) -> Option<(Step, usize)> {
 }
 
 fn header_line(bytes: &[u8]) -> Option<(Table, usize)> {
-    if bytes.first() != Some(&b'T') {
-        return None;
-    }
+    let profile = Profile::of_letter(*bytes.first()?)?;
     let (cores, at) = field(bytes, 1)?;
     let (first_class, at) = field(bytes, at)?;
     let (second_class, at) = field(bytes, at)?;
     let (counter, at) = field(bytes, at)?;
     let end = line_end(bytes, at)?;
-    Some((
-        Table::fresh(cores, first_class, second_class, counter)?,
-        end,
-    ))
+    let counts = [cores, first_class, second_class];
+    Some((Table::fresh_in(profile, counts, counter)?, end))
 }
 
 /// A good line always fits, so the bytes are searched for a line end only once
@@ -149,7 +145,8 @@ pub fn put_field<S: Sink>(sink: &mut S, number: u32) {
     put_number(sink, number);
 }
 
-/// `letter` and the header's four numbers: `T` in a script, `E` in its answers.
+/// `letter` and the header's four numbers: `T` or `D` in a script, `E` or `F` in its
+/// answers.
 pub fn put_header<S: Sink>(sink: &mut S, letter: u8, numbers: [u16; 4]) {
     sink.put(letter);
     for number in numbers {
@@ -308,15 +305,37 @@ mod tests {
             ("T\t1\t1\t0\t65536\n", false),
             ("T\t1\t1\t0\n", false),
             ("T\t01\t1\t0\t0\n", false),
+            ("D\t1\t1\t0\t0\n", true),
+            ("D\t32\t8\t0\t65535\n", true),
+            ("D\t33\t8\t0\t65535\n", false),
+            ("D\t0\t1\t0\t0\n", false),
+            ("D\t1\t0\t0\t0\n", false),
+            ("D\t1\t9\t0\t0\n", false),
+            ("D\t1\t1\t1\t0\n", false),
+            ("D\t32\t8\t8\t65535\n", false),
+            ("D\t1\t1\t9\t0\n", false),
+            ("D\t1\t1\t0\t65536\n", false),
+            ("D\t1\t1\t0\n", false),
+            ("D\t1\t1\t00\t0\n", false),
+            ("d\t1\t1\t0\t0\n", false),
+            ("E\t1\t1\t0\t0\n", false),
+            ("F\t1\t1\t0\t0\n", false),
             ("R\t0\t0\n", false),
             ("\n", false),
         ] {
             match read_header(text.as_bytes()) {
-                Ok((_, length)) => assert!(good && length == text.len(), "{text:?}"),
+                Ok((table, length)) => {
+                    assert!(good && length == text.len(), "{text:?}");
+                    assert_eq!(table.profile.letter(), text.as_bytes()[0]);
+                }
                 Err(fault) => assert!(!good && fault == Fault::Malformed, "{text:?}"),
             }
         }
         assert!(matches!(read_header(b""), Err(Fault::Unfinished)));
+        assert!(matches!(
+            read_header(b"D\t32\t8\t8\t65535"),
+            Err(Fault::Unfinished)
+        ));
         assert!(matches!(
             read_header(b"T\t32\t8\t8\t65535"),
             Err(Fault::Unfinished)

@@ -1,10 +1,50 @@
-//! The table of cores, units and the ticket counter, the six steps on it, and
-//! the judgement whether a table is sound.
+//! The table of cores, units and the ticket counter, the six steps on it in either
+//! profile, and the judgement whether a table is sound.
 
 use std::ops::{Index, IndexMut};
 
 pub const MAX_CORES: usize = 32;
 pub const MAX_UNITS: usize = 16;
+
+/// What the two profiles differ in is said at `interrupt`, `come_back`, `settle` and
+/// at what soundness asks of a core that is away.
+#[derive(Clone, Copy, PartialEq, Eq, Debug, Default)]
+pub enum Profile {
+    #[default]
+    T,
+    /// The dequeueing profile: no second-class units; who is away stays in line until
+    /// its turn comes.
+    D,
+}
+
+impl Profile {
+    pub const BOTH: [Profile; 2] = [Profile::T, Profile::D];
+
+    /// The letter of a script's header.
+    pub fn letter(self) -> u8 {
+        match self {
+            Profile::T => b'T',
+            Profile::D => b'D',
+        }
+    }
+
+    /// The letter that opens the answers.
+    pub fn output_letter(self) -> u8 {
+        match self {
+            Profile::T => b'E',
+            Profile::D => b'F',
+        }
+    }
+
+    pub fn of_letter(letter: u8) -> Option<Profile> {
+        Profile::BOTH.into_iter().find(|p| p.letter() == letter)
+    }
+
+    pub fn counts_in_range(self, cores: u16, first_class: u16, second_class: u16) -> bool {
+        counts_in_range(cores, first_class, second_class)
+            && (self == Profile::T || second_class == 0)
+    }
+}
 
 #[derive(Clone, Copy, PartialEq, Eq, Debug, Default)]
 pub enum State {
@@ -17,8 +57,19 @@ pub enum State {
     /// Holding its first unit and waiting at its second.
     WaitingSecond,
     HoldingBoth,
-    /// In a handler; stands at no unit but keeps its ticket and first unit.
+    /// In a handler, in T: it stands at no unit, and keeps its ticket and its first unit.
     Away,
+    /// In a handler, in D: it keeps its place in line with its ticket.
+    Marked,
+    /// In a handler, in D: it stands nowhere and has no ticket, but names its first unit.
+    Dropped,
+}
+
+impl State {
+    #[inline]
+    pub fn is_away(self) -> bool {
+        matches!(self, State::Away | State::Marked | State::Dropped)
+    }
 }
 
 /// What the state does not speak of is 0.
@@ -29,6 +80,17 @@ pub struct Core {
     pub carried: u16,
     pub first: u16,
     pub second: u16,
+}
+
+impl Core {
+    /// Away from this unit, without a ticket.
+    pub fn dropped(first: u16) -> Core {
+        Core {
+            state: State::Dropped,
+            first,
+            ..Core::default()
+        }
+    }
 }
 
 #[derive(Clone, Copy, PartialEq, Eq, Debug, Default)]
@@ -116,6 +178,7 @@ impl IndexMut<usize> for Unit {
 
 #[derive(Clone, PartialEq, Eq, Debug)]
 pub struct Table {
+    pub profile: Profile,
     pub cores: u16,
     pub first_class: u16,
     pub second_class: u16,
@@ -214,12 +277,19 @@ pub fn counts_in_range(cores: u16, first_class: u16, second_class: u16) -> bool 
 }
 
 impl Table {
-    /// None when the counts are out of range.
+    /// One of profile T. None when the counts are out of range.
     pub fn fresh(cores: u16, first_class: u16, second_class: u16, counter: u16) -> Option<Table> {
-        if !counts_in_range(cores, first_class, second_class) {
+        Table::fresh_in(Profile::T, [cores, first_class, second_class], counter)
+    }
+
+    /// None when the counts are out of the profile's range.
+    pub fn fresh_in(profile: Profile, counts: [u16; 3], counter: u16) -> Option<Table> {
+        let [cores, first_class, second_class] = counts;
+        if !profile.counts_in_range(cores, first_class, second_class) {
             return None;
         }
         Some(Table {
+            profile,
             cores,
             first_class,
             second_class,
@@ -266,8 +336,25 @@ impl Table {
         if self.core[c].state != State::Idle {
             return Outcome::refused(12);
         }
+        self.join(c, unit)
+    }
+
+    /// Whether the core has a ticket: it is not idle, and if it is away in D, it stands
+    /// in line. That its state says the same is asked by `sound`.
+    pub fn live(&self, c: usize) -> bool {
+        let core = &self.core[c];
+        if self.profile == Profile::D && core.state.is_away() {
+            let unit = self.unit.get(core.first as usize);
+            return unit.is_some_and(|unit| unit[c].valid);
+        }
+        core.state != State::Idle
+    }
+
+    /// Takes a new ticket and enters the unit with it; 15 where a live ticket lies too
+    /// far behind.
+    fn join(&mut self, c: usize, unit: u16) -> Outcome {
         let ticket = self.counter;
-        let stretched = |core: &Core| {
+        let far = |core: &Core| {
             core.state != State::Idle
                 && match compare(core.own, ticket) {
                     // 32,768 behind, and further.
@@ -275,8 +362,12 @@ impl Table {
                     Comparison::Older | Comparison::Same => false,
                 }
         };
-        if self.core.iter().any(stretched) {
-            return Outcome::refused(15);
+        // Few tables have one that is far: whether it is live is asked then.
+        if self.core.iter().any(far) {
+            let mut cores = self.core.iter().enumerate();
+            if cores.any(|(d, core)| far(core) && self.live(d)) {
+                return Outcome::refused(15);
+            }
         }
         self.counter = ticket.wrapping_add(1);
         self.core[c] = Core {
@@ -355,21 +446,41 @@ impl Table {
             State::Waiting => false,
             State::WaitingSecond => true,
             State::Holding | State::HoldingBoth => return Outcome::refused(14),
-            State::Idle | State::Away => return Outcome::refused(12),
+            _ => return Outcome::refused(12),
         };
-        self.core[c] = Core {
-            state: State::Away,
-            carried: core.own,
-            second: 0,
-            ..core
-        };
+        match self.profile {
+            Profile::T => {
+                self.core[c] = Core {
+                    state: State::Away,
+                    carried: core.own,
+                    second: 0,
+                    ..core
+                }
+            }
+            Profile::D if self.unit[core.first as usize][c].flag => {
+                self.core[c] = Core::dropped(core.first);
+            }
+            Profile::D => {
+                // It stays in line, and nothing is left to settle.
+                self.core[c].state = State::Marked;
+                return Outcome::of(0, core.own);
+            }
+        }
         self.give_up(c, &core, two, core.own)
     }
 
     fn come_back(&mut self, c: usize) -> Outcome {
         let core = self.core[c];
-        if core.state != State::Away {
+        if !core.state.is_away() {
             return Outcome::refused(12);
+        }
+        if self.profile == Profile::D {
+            if !self.live(c) {
+                return self.join(c, core.first);
+            }
+            // In line all the while: the unit is another core's, so nothing settles.
+            self.core[c].state = State::Waiting;
+            return Outcome::of(0, core.own);
         }
         self.core[c].state = State::Waiting;
         self.enter(core.first, c, core.own, Outcome::of(0, core.own))
@@ -427,11 +538,17 @@ impl Table {
 
     /// Sees from the registers who is next at the unit, and grants it to that one
     /// where nobody has it. Only the units that were left need this: the others were
-    /// settled before.
+    /// settled before. Whoever is away when its turn comes is dropped, which happens in
+    /// D alone: in T nobody is in line and away.
     fn settle(&mut self, unit: u16, outcome: &mut Outcome) {
         let cores = self.cores as usize;
         let touched = &mut self.unit[unit as usize];
         let mut next = Next::passed(&touched.registers[..cores]);
+        while next.valid && !next.held && self.core[next.core as usize].state.is_away() {
+            self.core[next.core as usize] = Core::dropped(unit);
+            touched[next.core as usize] = Register::default();
+            next = Next::passed(&touched.registers[..cores]);
+        }
         if next.valid && !next.held {
             touched[next.core as usize].flag = true;
             outcome.grant(unit, next.core);
@@ -441,7 +558,8 @@ impl Table {
     }
 
     pub fn sound(&self) -> bool {
-        if !counts_in_range(self.cores, self.first_class, self.second_class) {
+        let (first_class, second_class) = (self.first_class, self.second_class);
+        if !(self.profile).counts_in_range(self.cores, first_class, second_class) {
             return false;
         }
         let cores = self.cores as usize;
@@ -467,6 +585,19 @@ impl Table {
         if core.state == State::Idle {
             return *core == Core::default();
         }
+        if !self.live(c) {
+            // Nothing is left of it but the unit it names.
+            return *core == Core::dropped(core.first) && core.first < self.units();
+        }
+        let of_profile = match core.state {
+            State::Away => self.profile == Profile::T,
+            State::Marked => self.profile == Profile::D,
+            State::Dropped => false,
+            _ => true,
+        };
+        if !of_profile {
+            return false;
+        }
         let recent = match compare(core.own, self.counter) {
             // 1 to 32,767 behind, and 32,768.
             Comparison::Older | Comparison::Opposite => true,
@@ -478,7 +609,7 @@ impl Table {
         let mut others = self.core.iter().enumerate().filter(|(d, _)| *d != c);
         if others
             .clone()
-            .any(|(_, o)| o.state != State::Idle && o.own == core.own)
+            .any(|(d, o)| o.own == core.own && self.live(d))
         {
             return false;
         }
@@ -514,8 +645,12 @@ impl Table {
                 }
                 State::WaitingSecond if at_second => Some((core.carried, false)),
                 State::HoldingBoth if at_second => Some((core.carried, true)),
+                State::Marked if at_first => Some((core.own, false)),
                 _ => None,
             };
+            if core.state == State::Marked && register.flag {
+                return false;
+            }
             let agrees = match due {
                 Some((ticket, held)) => {
                     register.valid && register.ticket == ticket && (register.flag || !held)
@@ -943,6 +1078,424 @@ mod tests {
         for (ahead, expected) in [(0, false), (1, true), (32_768, true), (32_769, false)] {
             table.counter = 100u16.wrapping_add(ahead);
             assert_eq!(table.sound(), expected, "{ahead}");
+        }
+    }
+
+    fn dequeueing(cores: u16, first_class: u16, counter: u16) -> Table {
+        Table::fresh_in(Profile::D, [cores, first_class, 0], counter).unwrap()
+    }
+
+    /// Away with no ticket, naming this unit still.
+    fn dropped(first: u16) -> Core {
+        Core {
+            state: State::Dropped,
+            own: 0,
+            carried: 0,
+            first,
+            second: 0,
+        }
+    }
+
+    /// Makes the steps one by one: each with its answer, ticket and grants, and who is
+    /// next in line at unit 0 then.
+    type Made = (Kind, u16, u16, u8, u16, &'static [(u16, u16)], Next);
+
+    fn make_all(table: &mut Table, steps: &[Made]) {
+        for (number, (kind, core, unit, answer, ticket, grants, next)) in steps.iter().enumerate() {
+            let before = table.clone();
+            let made = make(table, *kind, *core, *unit);
+            let expected = (*answer, *ticket, grants.to_vec());
+            assert_eq!(made, expected, "step {number}: {kind:?} {core}");
+            assert_eq!(table.unit[0].next, *next, "step {number}: {kind:?} {core}");
+            assert!(*answer < 10 || *table == before, "step {number}");
+        }
+    }
+
+    #[test]
+    fn d_has_no_second_class() {
+        for (second, good) in [(0, true), (1, false), (8, false), (9, false)] {
+            let table = Table::fresh_in(Profile::D, [1, 1, second], 0);
+            assert_eq!(table.is_some(), good);
+        }
+        for counts in [[0, 1, 0], [33, 1, 0], [1, 0, 0], [1, 9, 0]] {
+            assert_eq!(Table::fresh_in(Profile::D, counts, 0), None);
+        }
+        let mut table = dequeueing(1, 2, 0);
+        assert!(table.sound());
+        table.second_class = 1;
+        assert!(!table.sound());
+        // N meets the refusals of T, in their order.
+        let mut table = dequeueing(1, 2, 0);
+        assert_eq!(make(&mut table, Nest, 1, 2).0, 10);
+        assert_eq!(make(&mut table, Nest, 0, 2).0, 11);
+        assert_eq!(make(&mut table, Nest, 0, 1).0, 12);
+        make(&mut table, Request, 0, 0);
+        assert_eq!(make(&mut table, Nest, 0, 1).0, 12);
+        make(&mut table, Poll, 0, 0);
+        assert_eq!(make(&mut table, Nest, 0, 2).0, 11);
+        assert_eq!(make(&mut table, Nest, 0, 1).0, 13);
+    }
+
+    /// Cores 1 and 2 are away in line when core 0 releases: both are dropped, and core
+    /// 3 is granted. They come back with new tickets, in the order of their return.
+    #[test]
+    fn two_dropped_in_one_release() {
+        let mut table = dequeueing(4, 2, 10);
+        make_all(
+            &mut table,
+            &[
+                (Request, 0, 0, 0, 10, &[(0, 0)], nobody(true)),
+                (Poll, 0, 0, 1, 10, &[], nobody(true)),
+                (Request, 1, 0, 0, 11, &[], waits(11, 1)),
+                (Request, 2, 0, 0, 12, &[], waits(11, 1)),
+                (Request, 3, 0, 0, 13, &[], waits(11, 1)),
+                // The next in line is shown, away or not.
+                (Interrupt, 1, 0, 0, 11, &[], waits(11, 1)),
+                (Interrupt, 2, 0, 0, 12, &[], waits(11, 1)),
+                (Interrupt, 2, 0, 12, 0, &[], waits(11, 1)),
+                (Poll, 1, 0, 12, 0, &[], waits(11, 1)),
+                (Leave, 1, 0, 12, 0, &[], waits(11, 1)),
+                (Request, 1, 1, 12, 0, &[], waits(11, 1)),
+                (Leave, 0, 0, 0, 10, &[(0, 3)], nobody(true)),
+            ],
+        );
+        assert_eq!(table.counter, 14);
+        assert_eq!(table.core[0], Core::default());
+        assert_eq!(table.core[1..3], [dropped(0); 2]);
+        assert_eq!(table.core[3].state, State::Waiting);
+        let valid: Vec<bool> = table.unit[0].registers.iter().map(|r| r.valid).collect();
+        assert_eq!(valid[..4], [false, false, false, true]);
+        make_all(
+            &mut table,
+            &[
+                (Interrupt, 1, 0, 12, 0, &[], nobody(true)),
+                (Request, 1, 1, 12, 0, &[], nobody(true)),
+                (Continue, 2, 0, 0, 14, &[], waits(14, 2)),
+                (Continue, 1, 0, 0, 15, &[], waits(14, 2)),
+                (Continue, 1, 0, 12, 0, &[], waits(14, 2)),
+                (Poll, 3, 0, 1, 13, &[], waits(14, 2)),
+                (Interrupt, 3, 0, 14, 0, &[], waits(14, 2)),
+                // One of the two is away: it is passed over, and dropped again.
+                (Interrupt, 2, 0, 0, 14, &[], waits(14, 2)),
+                (Leave, 3, 0, 0, 13, &[(0, 1)], nobody(true)),
+            ],
+        );
+        assert_eq!(table.core[2], dropped(0));
+    }
+
+    /// Nobody is left to grant to: all in line are dropped, and the unit is free.
+    #[test]
+    fn all_in_line_dropped() {
+        let mut table = dequeueing(4, 1, 65_534);
+        make_all(
+            &mut table,
+            &[
+                (Request, 2, 0, 0, 65_534, &[(0, 2)], nobody(true)),
+                (Request, 3, 0, 0, 65_535, &[], waits(65_535, 3)),
+                (Request, 0, 0, 0, 0, &[], waits(65_535, 3)),
+                (Request, 1, 0, 0, 1, &[], waits(65_535, 3)),
+                (Interrupt, 0, 0, 0, 0, &[], waits(65_535, 3)),
+                (Interrupt, 1, 0, 0, 1, &[], waits(65_535, 3)),
+                (Interrupt, 3, 0, 0, 65_535, &[], waits(65_535, 3)),
+                (Poll, 2, 0, 1, 65_534, &[], waits(65_535, 3)),
+                (Leave, 2, 0, 0, 65_534, &[], nobody(false)),
+            ],
+        );
+        assert_eq!(table.unit, [Unit::default(); MAX_UNITS]);
+        assert_eq!(table.core[..2], [dropped(0); 2]);
+        assert_eq!(table.core[3], dropped(0));
+        make_all(
+            &mut table,
+            &[
+                (Continue, 1, 0, 0, 2, &[(0, 1)], nobody(true)),
+                (Continue, 0, 0, 0, 3, &[], waits(3, 0)),
+            ],
+        );
+    }
+
+    /// A younger one that is away stays in line behind the one that is granted, and
+    /// comes back with its ticket and its place.
+    #[test]
+    fn back_in_line() {
+        let mut table = dequeueing(4, 1, 65_535);
+        make_all(
+            &mut table,
+            &[
+                (Request, 0, 0, 0, 65_535, &[(0, 0)], nobody(true)),
+                (Request, 1, 0, 0, 0, &[], waits(0, 1)),
+                (Request, 2, 0, 0, 1, &[], waits(0, 1)),
+                (Request, 3, 0, 0, 2, &[], waits(0, 1)),
+                (Interrupt, 2, 0, 0, 1, &[], waits(0, 1)),
+                (Poll, 0, 0, 1, 65_535, &[], waits(0, 1)),
+                (Leave, 0, 0, 0, 65_535, &[(0, 1)], waits(1, 2)),
+                (Continue, 2, 0, 0, 1, &[], waits(1, 2)),
+                (Poll, 2, 0, 2, 1, &[], waits(1, 2)),
+                (Interrupt, 2, 0, 0, 1, &[], waits(1, 2)),
+                (Continue, 2, 0, 0, 1, &[], waits(1, 2)),
+                (Poll, 1, 0, 1, 0, &[], waits(1, 2)),
+                (Leave, 1, 0, 0, 0, &[(0, 2)], waits(2, 3)),
+            ],
+        );
+        assert_eq!(table.counter, 3);
+    }
+
+    /// With its flag set and not polled: it gives the unit up, its ticket is reported
+    /// and ended, and it comes back behind the others. Ticket 0 among them.
+    #[test]
+    fn interrupted_with_the_flag() {
+        let mut table = dequeueing(3, 2, 0);
+        make_all(
+            &mut table,
+            &[
+                (Request, 0, 1, 0, 0, &[(1, 0)], nobody(false)),
+                (Interrupt, 0, 0, 0, 0, &[], nobody(false)),
+            ],
+        );
+        assert_eq!(table.core[0], dropped(1));
+        assert_eq!(table.unit, [Unit::default(); MAX_UNITS]);
+        make_all(
+            &mut table,
+            &[
+                (Continue, 0, 0, 0, 1, &[(1, 0)], nobody(false)),
+                (Request, 1, 1, 0, 2, &[], nobody(false)),
+                (Request, 2, 1, 0, 3, &[], nobody(false)),
+                (Interrupt, 1, 0, 0, 2, &[], nobody(false)),
+                // Core 1 is dropped on the way to core 2.
+                (Interrupt, 0, 0, 0, 1, &[(1, 2)], nobody(false)),
+            ],
+        );
+        assert_eq!(table.core[..2], [dropped(1); 2]);
+        assert_eq!(table.unit[1].next, nobody(true));
+        assert_eq!(make(&mut table, Continue, 0, 0), (0, 4, vec![]));
+        assert_eq!(table.unit[1].next, waits(4, 0));
+    }
+
+    /// Core 3 enters when 65534, 65535 and 0 are live and earlier, two of them of cores
+    /// that are away in line. These come back, and both are granted before it; the third
+    /// had the flag at its entry. More is not to be had: see `passed` in `make`.
+    #[test]
+    fn passed_as_often_as_can_be_across_the_wrap() {
+        let mut table = dequeueing(4, 1, 65_534);
+        make_all(
+            &mut table,
+            &[
+                (Request, 0, 0, 0, 65_534, &[(0, 0)], nobody(true)),
+                (Request, 1, 0, 0, 65_535, &[], waits(65_535, 1)),
+                (Request, 2, 0, 0, 0, &[], waits(65_535, 1)),
+                (Interrupt, 1, 0, 0, 65_535, &[], waits(65_535, 1)),
+                (Interrupt, 2, 0, 0, 0, &[], waits(65_535, 1)),
+                (Request, 3, 0, 0, 1, &[], waits(65_535, 1)),
+                (Continue, 2, 0, 0, 0, &[], waits(65_535, 1)),
+                (Continue, 1, 0, 0, 65_535, &[], waits(65_535, 1)),
+                (Interrupt, 0, 0, 0, 65_534, &[(0, 1)], waits(0, 2)),
+                (Continue, 0, 0, 0, 2, &[], waits(0, 2)),
+                (Poll, 1, 0, 1, 65_535, &[], waits(0, 2)),
+                (Leave, 1, 0, 0, 65_535, &[(0, 2)], waits(1, 3)),
+                (Poll, 3, 0, 2, 1, &[], waits(1, 3)),
+                (Poll, 2, 0, 1, 0, &[], waits(1, 3)),
+                (Leave, 2, 0, 0, 0, &[(0, 3)], waits(2, 0)),
+                (Poll, 3, 0, 1, 1, &[], waits(2, 0)),
+            ],
+        );
+    }
+
+    /// Core 0 holds unit 0 with ticket 0, core 1 was dropped from unit 1, core 2 moves
+    /// the counter on. 15 for R and for C alike, once 0 lies 32,768 behind; not for C of
+    /// one that is in line.
+    #[test]
+    fn coming_back_half_the_circle_on() {
+        for (counter, answer) in [(32_767, 0), (32_768, 15)] {
+            let mut table = dequeueing(5, 3, 0);
+            make(&mut table, Request, 0, 0); // 0
+            make(&mut table, Poll, 0, 0);
+            make(&mut table, Request, 3, 0); // 1
+            make(&mut table, Interrupt, 3, 0);
+            make(&mut table, Request, 1, 1); // 2
+            assert_eq!(make(&mut table, Interrupt, 1, 0), (0, 2, vec![]));
+            while table.counter != counter {
+                make(&mut table, Request, 2, 2);
+                make(&mut table, Poll, 2, 0);
+                make(&mut table, Leave, 2, 0);
+            }
+            let before = table.clone();
+            let refused = (15, 0, vec![]);
+            if answer == 15 {
+                assert_eq!(make(&mut table, Continue, 1, 0), refused);
+                assert_eq!(make(&mut table, Request, 4, 2), refused);
+                // 12 comes first.
+                assert_eq!(make(&mut table, Continue, 4, 0).0, 12);
+                assert_eq!(table, before);
+                assert_eq!(make(&mut table, Continue, 3, 0), (0, 1, vec![]));
+                make(&mut table, Interrupt, 3, 0);
+                // Ticket 0 ends, and 1 with it: core 3 is dropped.
+                assert_eq!(make(&mut table, Leave, 0, 0), (0, 0, vec![]));
+                assert_eq!(table.core[3], dropped(0));
+                let made = make(&mut table, Continue, 1, 0);
+                assert_eq!(made, (0, 32_768, vec![(1, 1)]));
+                // The blank 0 of the one that was dropped is no ticket: 15 and the
+                // window pass over it.
+                assert_eq!(make(&mut table, Request, 4, 2), (0, 32_769, vec![(2, 4)]));
+            } else {
+                let made = make(&mut table, Continue, 1, 0);
+                assert_eq!(made, (0, 32_767, vec![(1, 1)]));
+            }
+        }
+    }
+
+    /// Core 0 holds unit 0 with 5, core 1 is away in line with 6, core 2 waits with 7,
+    /// core 3 was dropped from unit 1; core 4 is idle.
+    #[test]
+    fn sound_in_d() {
+        let mut table = dequeueing(5, 2, 4);
+        make(&mut table, Request, 3, 1); // 4
+        make(&mut table, Interrupt, 3, 0);
+        for core in 0..3 {
+            make(&mut table, Request, core, 0);
+        }
+        make(&mut table, Poll, 0, 0);
+        make(&mut table, Interrupt, 1, 0);
+        assert_eq!(table.unit[0].next, waits(6, 1));
+        type Change = (&'static str, fn(&mut Table), bool);
+        let changes: [Change; 26] = [
+            (
+                "marked as T has it",
+                |t| t.core[1].state = State::Away,
+                false,
+            ),
+            (
+                "dropped as T has it",
+                |t| t.core[3].state = State::Away,
+                false,
+            ),
+            (
+                "marked, called dropped",
+                |t| t.core[1].state = State::Dropped,
+                false,
+            ),
+            (
+                "dropped, called marked",
+                |t| t.core[3].state = State::Marked,
+                false,
+            ),
+            (
+                "waiting, called marked",
+                |t| t.core[2].state = State::Marked,
+                true,
+            ),
+            (
+                "holding, called marked",
+                |t| t.core[0].state = State::Marked,
+                false,
+            ),
+            (
+                "idle, called dropped",
+                |t| t.core[4].state = State::Dropped,
+                true,
+            ),
+            ("of T", |t| t.profile = Profile::T, false),
+            ("own ticket kept", |t| t.core[3].own = 4, false),
+            ("carried ticket kept", |t| t.core[3].carried = 4, false),
+            ("a second unit", |t| t.core[3].second = 1, false),
+            ("a unit past the table", |t| t.core[3].first = 2, false),
+            ("another unit named", |t| t.core[3].first = 0, true),
+            ("a unit past all", |t| t.core[3].first = 65_535, false),
+            ("the flag", |t| t.unit[0][1].flag = true, false),
+            (
+                "the flag for the holder's",
+                |t| {
+                    t.unit[0][1].flag = true;
+                    t.unit[0][0].flag = false;
+                },
+                false,
+            ),
+            (
+                "out of line with its ticket",
+                |t| t.unit[0][1] = Register::default(),
+                false,
+            ),
+            (
+                "out of line without",
+                |t| {
+                    t.unit[0][1] = Register::default();
+                    t.core[1] = dropped(0);
+                },
+                true,
+            ),
+            ("another ticket in line", |t| t.unit[0][1].ticket = 4, false),
+            ("another own ticket", |t| t.core[1].own = 4, false),
+            ("carries another", |t| t.core[1].carried = 5, false),
+            ("names another unit", |t| t.core[1].first = 1, false),
+            ("in line at two", |t| t.unit[1][1] = t.unit[0][1], false),
+            (
+                "ticket 0 in line",
+                |t| {
+                    (t.core[1].own, t.core[1].carried) = (0, 0);
+                    t.unit[0][1].ticket = 0;
+                },
+                true,
+            ),
+            (
+                "nobody there who is not away",
+                |t| {
+                    t.unit[0][0] = Register::default();
+                    t.unit[0][2] = Register::default();
+                    (t.core[0], t.core[2]) = (Core::default(), Core::default());
+                },
+                false,
+            ),
+            (
+                "waits at a second",
+                |t| (t.core[0].state, t.core[0].second) = (State::WaitingSecond, 1),
+                false,
+            ),
+        ];
+        for (name, change, sound) in changes {
+            let mut changed = table.clone();
+            change(&mut changed);
+            for unit in &mut changed.unit {
+                unit.next = Next::of(&unit.registers);
+            }
+            assert_eq!(changed.sound(), sound, "{name}");
+            if !sound {
+                let before = changed.clone();
+                let step = Step {
+                    kind: Continue,
+                    core: 9,
+                    unit: 0,
+                };
+                assert_eq!(changed.step_any(step), Outcome::refused(16), "{name}");
+                assert_eq!(changed, before);
+            }
+        }
+        // The next in line may not pass over the one that is away.
+        table.unit[0].next = waits(7, 2);
+        assert!(!table.sound());
+        // In T an away core's 0 is a ticket.
+        let mut table = Table::fresh(1, 1, 0, 1).unwrap();
+        make(&mut table, Request, 0, 0);
+        table.core[0].own = 0;
+        table.core[0].carried = 0;
+        table.counter = 1;
+        table.core[0].state = State::Away;
+        table.unit[0] = Unit::default();
+        assert!(table.sound());
+        table.counter = 0;
+        assert!(!table.sound());
+        // In D nobody is away so; a dropped core's 0 is no ticket.
+        table.profile = Profile::D;
+        assert!(!table.sound());
+        table.core[0].state = State::Dropped;
+        assert!(table.sound());
+        // In T nobody is dropped, and nobody marked.
+        for counter in [0, 1] {
+            table.counter = counter;
+            assert!(table.sound());
+            table.profile = Profile::T;
+            assert!(!table.sound());
+            table.core[0].state = State::Marked;
+            assert!(!table.sound());
+            table.core[0].state = State::Dropped;
+            table.profile = Profile::D;
         }
     }
 }

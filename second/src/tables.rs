@@ -3,30 +3,38 @@
 
 use crate::cases;
 use crate::lines::{self, Kinds};
-use crate::make::{any_counts, edge_counter, Maker};
+use crate::make::{any_counts, edge_counter, Maker, Profiles};
 use crate::rng::Rng;
 use crate::table::{
-    counts_in_range, older, Core, Kind, Next, Register, State, Step, Table, Unit, MAX_CORES,
-    MAX_UNITS,
+    older, Core, Kind, Next, Profile, Register, State, Step, Table, Unit, MAX_CORES, MAX_UNITS,
 };
 use crate::words;
 
-const STATES: [State; 6] = [
+const STATES: [State; 8] = [
     State::Idle,
     State::Waiting,
     State::Holding,
     State::WaitingSecond,
     State::HoldingBoth,
     State::Away,
+    State::Marked,
+    State::Dropped,
 ];
+/// Those of T. In D a core that is away is one of the two others.
+const STATES_T: usize = 6;
 
 /// A table reached by a run; those with an inherited ticket are preferred.
-fn reached(rng: &mut Rng) -> Table {
+/// In D, those in which cores are away.
+fn reached(rng: &mut Rng, profiles: Profiles) -> Table {
     let wanted = rng.chance(60);
-    let mut maker = Maker::any(Rng::new(rng.draw(), 0));
+    let mut maker = Maker::any(Rng::new(rng.draw(), 0), profiles);
     for _ in 0..rng.within(0, 300) {
         maker.next_step();
-        if wanted && rng.chance(30) && maker.table.core.iter().any(|c| c.carried != c.own) {
+        let fits = |c: &Core| match maker.table.profile {
+            Profile::T => c.carried != c.own,
+            Profile::D => c.state.is_away(),
+        };
+        if wanted && rng.chance(30) && maker.table.core.iter().any(fits) {
             break;
         }
     }
@@ -34,14 +42,19 @@ fn reached(rng: &mut Rng) -> Table {
 }
 
 /// A sound table put together, reached by a run or not.
-fn built(rng: &mut Rng) -> Table {
-    let [cores, first_class, second_class] = any_counts(rng);
+fn built(rng: &mut Rng, profiles: Profiles) -> Table {
+    let profile = profiles.any(rng);
+    let [cores, first_class, mut second_class] = any_counts(rng);
+    if profile == Profile::D {
+        second_class = 0;
+    }
     let counter = edge_counter(rng);
-    let mut table = Table::fresh(cores, first_class, second_class, counter).expect("in range");
+    let counts = [cores, first_class, second_class];
+    let mut table = Table::fresh_in(profile, counts, counter).expect("in range");
     let mut held = [false; MAX_UNITS];
     let mut distances: Vec<u16> = Vec::new();
     for c in 0..cores as usize {
-        let mut state = rng.pick(&STATES);
+        let mut state = rng.pick(&STATES[..STATES_T]);
         if state == State::Idle {
             continue;
         }
@@ -106,10 +119,34 @@ fn built(rng: &mut Rng) -> Table {
             }
         }
     }
+    if profile == Profile::D {
+        place_away(rng, &mut table);
+    }
     stand(&mut table);
     fix_flags(rng, &mut table);
     lines::set_right(&mut table);
     table
+}
+
+/// In D: cores that are away stand in line where another may have the unit, and are
+/// dropped elsewhere; some are dropped anyway.
+fn place_away(rng: &mut Rng, table: &mut Table) {
+    let present = |core: &Core| matches!(core.state, State::Waiting | State::Holding);
+    for c in 0..table.cores as usize {
+        let core = table.core[c];
+        if core.state != State::Away {
+            continue;
+        }
+        let had = |other: &Core| present(other) && other.first == core.first;
+        table.core[c] = if table.core.iter().any(had) && rng.chance(70) {
+            Core {
+                state: State::Marked,
+                ..core
+            }
+        } else {
+            Core::dropped(core.first)
+        };
+    }
 }
 
 /// Sets every register of every core as its state says, flags of holders only.
@@ -118,8 +155,8 @@ fn stand(table: &mut Table) {
     table.unit = [Unit::default(); MAX_UNITS];
     for (c, core) in table.core.iter().enumerate() {
         let (first, second) = match core.state {
-            State::Idle | State::Away => (None, None),
-            State::Waiting => (Some(false), None),
+            State::Idle | State::Away | State::Dropped => (None, None),
+            State::Waiting | State::Marked => (Some(false), None),
             State::Holding => (Some(true), None),
             State::WaitingSecond => (Some(true), Some(false)),
             State::HoldingBoth => (Some(true), Some(true)),
@@ -140,10 +177,13 @@ fn stand(table: &mut Table) {
     }
 }
 
-/// Gives a flag to some valid register of each unit that has none set.
+/// Gives a flag to some valid register of each unit that has none set, but to none of a
+/// marked core.
 fn fix_flags(rng: &mut Rng, table: &mut Table) {
+    let core = &table.core;
     for unit in &mut table.unit {
-        let valid: Vec<usize> = (0..MAX_CORES).filter(|c| unit[*c].valid).collect();
+        let fits = |c: &usize| unit[*c].valid && core[*c].state != State::Marked;
+        let valid: Vec<usize> = (0..MAX_CORES).filter(fits).collect();
         if !valid.is_empty() && unit.registers.iter().all(|register| !register.flag) {
             unit[rng.pick(&valid)].flag = true;
         }
@@ -235,6 +275,20 @@ fn unblank(rng: &mut Rng, register: &mut Register) {
 const ASIDE: u64 = 26;
 const DISORDER: u64 = ASIDE + lines::WRONG;
 pub const WAYS: u64 = DISORDER + lines::DISORDERS.len() as u64;
+/// Beyond these: two that put what is sound in the one profile to the other; and those
+/// that only D has.
+const SWITCHED: u64 = WAYS;
+const ONLY_D: u64 = SWITCHED + 2;
+pub const WAYS_D: u64 = ONLY_D + 8;
+
+/// The ways to break this table.
+fn ways(table: &Table, profiles: Profiles) -> u64 {
+    match (profiles, table.profile) {
+        (Profiles::T, _) => WAYS,
+        (Profiles::Both, Profile::T) => ONLY_D,
+        (Profiles::Both, Profile::D) => WAYS_D,
+    }
+}
 
 /// Breaks one clause of soundness where the table has a place for it. Some
 /// changes leave it sound, so that both sides of an edge are met.
@@ -242,6 +296,13 @@ fn break_table(rng: &mut Rng, table: &mut Table, way: u64) -> Option<()> {
     if way < ASIDE {
         break_aside(rng, table, way)?;
         // The registers are others now: mostly that shall break no other clause.
+        if rng.chance(85) {
+            lines::set_right(table);
+        }
+        return Some(());
+    }
+    if way >= SWITCHED {
+        break_dequeueing(rng, table, way - SWITCHED)?;
         if rng.chance(85) {
             lines::set_right(table);
         }
@@ -294,6 +355,170 @@ fn disorder(rng: &mut Rng, table: &mut Table, kind: &str) -> Option<()> {
             valid: true,
             held: unit.next.held,
         };
+    }
+    Some(())
+}
+
+/// Breaks a clause that D has, or puts what is sound in the one profile to the other.
+fn break_dequeueing(rng: &mut Rng, table: &mut Table, way: u64) -> Option<()> {
+    let units = table.units();
+    let mut some_away =
+        |table: &Table, state: State| some_core(rng, table, |_, core| core.state == state);
+    match way {
+        0 => {
+            // Of the other profile; who is away may have a state of that one, and what
+            // this state asks for.
+            let (profile, states) = match table.profile {
+                Profile::T => (Profile::D, [State::Away, State::Marked, State::Dropped]),
+                Profile::D => (Profile::T, [State::Marked, State::Dropped, State::Away]),
+            };
+            table.profile = profile;
+            let state = rng.pick(&states);
+            let blank = rng.chance(50);
+            for core in table.core.iter_mut().filter(|core| core.state.is_away()) {
+                if rng.chance(90) {
+                    core.state = state;
+                }
+                if state == State::Dropped && blank {
+                    *core = Core::dropped(core.first);
+                }
+            }
+            if rng.chance(50) {
+                table.second_class = 0;
+            }
+            if rng.chance(70) {
+                stand(table);
+                fix_flags(rng, table);
+            }
+        }
+        1 => {
+            // Away in another of the three ways, with the ticket and the register of
+            // the one or of the other.
+            let c = some_core(rng, table, |_, core| core.state.is_away())?;
+            let state = rng.pick(&[State::Away, State::Marked, State::Dropped]);
+            if state == table.core[c].state {
+                return None;
+            }
+            let own = any_ticket(rng, table);
+            let core = &mut table.core[c];
+            core.state = state;
+            match rng.below(4) {
+                0 => (core.own, core.carried) = (0, 0),
+                1 => (core.own, core.carried) = (own, own),
+                _ => {}
+            }
+            let core = *core;
+            let first = core.first as usize;
+            match rng.below(3) {
+                0 => table.unit[first][c] = Register::default(),
+                1 => {
+                    table.unit[first][c] = Register {
+                        ticket: core.own,
+                        valid: true,
+                        flag: false,
+                    };
+                }
+                _ => {}
+            }
+        }
+        2 => {
+            // Dropped, with something left of it.
+            let c = some_away(table, State::Dropped)?;
+            let ticket = any_ticket(rng, table);
+            let core = &mut table.core[c];
+            match rng.below(5) {
+                0 => core.own = ticket,
+                1 => core.carried = ticket,
+                2 => (core.own, core.carried) = (ticket, ticket),
+                3 => core.second = rng.pick(&[1, units, 256, 65_535]),
+                _ => core.first = rng.pick(&[units, units + 1, 15, 16, 65_535]),
+            }
+        }
+        3 => {
+            // No longer in line: dropped whole, or but for its state or its tickets.
+            let c = some_away(table, State::Marked)?;
+            let first = table.core[c].first as usize;
+            table.unit[first][c] = Register::default();
+            if rng.chance(70) {
+                table.core[c].state = State::Dropped;
+            }
+            match rng.below(4) {
+                0 => {}
+                1 => table.core[c].own = 0,
+                2 => table.core[c].carried = 0,
+                _ => (table.core[c].own, table.core[c].carried) = (0, 0),
+            }
+        }
+        4 => {
+            // Marked, with the flag.
+            let c = some_away(table, State::Marked)?;
+            let unit = &mut table.unit[table.core[c].first as usize];
+            if rng.chance(70) {
+                let holder = unit.registers.iter().position(|r| r.flag)?;
+                unit[holder].flag = false;
+            }
+            unit[c].flag = true;
+        }
+        5 => {
+            // Dropped, and yet in line: with ticket 0, or with another. Where it is
+            // marked, with this ticket as its own, that may be sound.
+            let c = some_away(table, State::Dropped)?;
+            let first = table.core[c].first as usize;
+            let any = any_ticket(rng, table);
+            let ticket = rng.pick(&[0, 0, any]);
+            table.unit[first][c] = Register {
+                ticket,
+                valid: true,
+                flag: false,
+            };
+            if rng.chance(50) {
+                (table.core[c].own, table.core[c].carried) = (ticket, ticket);
+            }
+            if rng.chance(60) {
+                table.core[c].state = State::Marked;
+            }
+            if rng.chance(50) {
+                table.counter = ticket.wrapping_add(rng.pick(&[0, 1, 32_767, 32_768, 32_769]));
+            }
+        }
+        6 => {
+            // In line elsewhere, instead or too.
+            let c = some_away(table, State::Marked)?;
+            let first = table.core[c].first as usize;
+            let other = rng.index(units as usize);
+            table.unit[other][c] = table.unit[first][c];
+            if other != first && rng.chance(50) {
+                table.unit[first][c] = Register::default();
+            }
+        }
+        7 => table.second_class = rng.within(1, 8) as u16,
+        8 => {
+            // Whoever has the unit, and all that are not away, are gone from it.
+            let c = some_away(table, State::Marked)?;
+            let first = table.core[c].first;
+            for d in 0..MAX_CORES {
+                let core = table.core[d];
+                if core.state != State::Idle && !core.state.is_away() && core.first == first {
+                    table.core[d] = Core::default();
+                    table.unit[first as usize][d] = Register::default();
+                }
+            }
+        }
+        _ => {
+            // In line with a ticket that is not its own, or carries another.
+            let c = some_away(table, State::Marked)?;
+            let ticket = any_ticket(rng, table);
+            let first = table.core[c].first as usize;
+            match rng.below(4) {
+                0 => table.core[c].own = ticket,
+                1 => table.core[c].carried = ticket,
+                2 => table.unit[first][c].ticket = ticket,
+                _ => {
+                    (table.core[c].own, table.core[c].carried) = (ticket, ticket);
+                    table.unit[first][c].ticket = ticket;
+                }
+            }
+        }
     }
     Some(())
 }
@@ -568,11 +793,11 @@ fn flip(rng: &mut Rng, table: &mut Table) {
 }
 
 /// A table that is sound, or broken in one way or in two.
-pub fn any_table(rng: &mut Rng) -> Table {
+pub fn any_table(rng: &mut Rng, profiles: Profiles) -> Table {
     let mut table = if rng.chance(50) {
-        reached(rng)
+        reached(rng, profiles)
     } else {
-        built(rng)
+        built(rng, profiles)
     };
     if rng.chance(25) {
         return table;
@@ -580,7 +805,7 @@ pub fn any_table(rng: &mut Rng) -> Table {
     for _ in 0..rng.pick(&[1, 1, 1, 2]) {
         // A way without a place in this table is made up for by another.
         for _ in 0..10 {
-            let way = rng.below(WAYS);
+            let way = rng.below(ways(&table, profiles));
             if table.sound() && break_table(rng, &mut table, way).is_some() {
                 break;
             }
@@ -656,10 +881,14 @@ fn any_word(rng: &mut Rng) -> u32 {
     }
 }
 
-/// Counts, mostly in range, and the number of words: right or near it, or that of
-/// the registers alone.
-fn extent(rng: &mut Rng) -> ([u16; 3], u16) {
+/// Counts of a profile, mostly in range, and the number of words: right or near it, or
+/// that of the registers alone.
+fn extent(rng: &mut Rng, profiles: Profiles) -> (Profile, [u16; 3], u16) {
+    let profile = profiles.any(rng);
     let mut counts = any_counts(rng);
+    if profile == Profile::D && rng.chance(90) {
+        counts[2] = 0;
+    }
     if rng.chance(20) {
         counts[rng.index(3)] = rng.pick(&[0, 0, 9, 9, 10, 16, 32, 33, 33, 34, 256, 32_768, 65_535]);
     }
@@ -674,7 +903,7 @@ fn extent(rng: &mut Rng) -> ([u16; 3], u16) {
         4 | 5 => registers,
         _ => right,
     };
-    (counts, number.min(cases::WORDS_MAX as u64) as u16)
+    (profile, counts, number.min(cases::WORDS_MAX as u64) as u16)
 }
 
 /// An image to read. The number of words says whether each unit has the word after
@@ -776,36 +1005,43 @@ fn any_step(rng: &mut Rng, table: &Table) -> Step {
             State::Waiting | State::WaitingSecond => rng.pick(&[Kind::Poll, Kind::Interrupt]),
             State::Holding => rng.pick(&[Kind::Nest, Kind::Nest, Kind::Leave, Kind::Interrupt]),
             State::HoldingBoth => rng.pick(&[Kind::Leave, Kind::Leave, Kind::Interrupt]),
-            State::Away => Kind::Continue,
+            State::Away | State::Marked | State::Dropped => Kind::Continue,
         },
         _ => rng.pick(&cases::KINDS),
     };
     Step { kind, core, unit }
 }
 
-/// Puts one case of `M`, counts its kind, and gives its step. Four tables in five
-/// are sound.
-pub fn put_method(rng: &mut Rng, case: &mut Vec<u8>, kinds: &mut Kinds) -> Step {
+/// Puts one case of `M` or `m`, counts its kind, and gives its profile and step. Four
+/// tables in five are sound.
+pub fn put_method(
+    rng: &mut Rng,
+    case: &mut Vec<u8>,
+    kinds: &mut Kinds,
+    profiles: Profiles,
+) -> (Profile, Step) {
     let table = match rng.below(12) {
-        0..=3 => reached(rng),
-        4..=8 => built(rng),
-        _ => any_table(rng),
+        0..=3 => reached(rng, profiles),
+        4..=8 => built(rng, profiles),
+        _ => any_table(rng, profiles),
     };
     let step = any_step(rng, &table);
-    lines::count_table(kinds, 'M', &table);
+    let letter = cases::letter_in(table.profile, b'M');
+    lines::count_table(kinds, letter as char, &table);
     cases::put_method(case, &table, step);
-    step
+    (table.profile, step)
 }
 
-/// Puts one case of any letter but `T` and `M`, counts its kind, and gives its
+/// Puts one case of any letter but `T`, `M` and `m`, counts its kind, and gives its
 /// letter.
-pub fn put_any(rng: &mut Rng, case: &mut Vec<u8>, kinds: &mut Kinds) -> u8 {
+pub fn put_any(rng: &mut Rng, case: &mut Vec<u8>, kinds: &mut Kinds, profiles: Profiles) -> u8 {
     match rng.below(12) {
         0..=4 => {
-            let table = any_table(rng);
-            lines::count_table(kinds, 'S', &table);
+            let table = any_table(rng, profiles);
+            let letter = cases::letter_in(table.profile, b'S');
+            lines::count_table(kinds, letter as char, &table);
             cases::put_table(case, &table);
-            b'S'
+            letter
         }
         5 => {
             cases::put_word(case, any_word(rng));
@@ -816,22 +1052,24 @@ pub fn put_any(rng: &mut Rng, case: &mut Vec<u8>, kinds: &mut Kinds) -> u8 {
             b'P'
         }
         7..=9 => {
-            let (counts, number) = extent(rng);
+            let (profile, counts, number) = extent(rng, profiles);
             let words = any_image(rng, counts, number as usize);
-            if counts_in_range(counts[0], counts[1], counts[2]) {
-                lines::count_reading(kinds, counts, &words);
+            let letter = cases::letter_in(profile, b'I');
+            if profile.counts_in_range(counts[0], counts[1], counts[2]) {
+                lines::count_reading(kinds, letter as char, counts, &words);
             }
-            cases::put_read_image(case, counts, &words);
-            b'I'
+            cases::put_read_image(case, profile, counts, &words);
+            letter
         }
         _ => {
-            let (counts, room) = extent(rng);
+            let (profile, counts, room) = extent(rng, profiles);
             let units = any_units(rng, counts);
-            if counts_in_range(counts[0], counts[1], counts[2]) {
-                lines::count_writing(kinds, counts, room, &units);
+            let letter = cases::letter_in(profile, b'O');
+            if profile.counts_in_range(counts[0], counts[1], counts[2]) {
+                lines::count_writing(kinds, letter as char, counts, room, &units);
             }
-            cases::put_write_image(case, counts, room, &units);
-            b'O'
+            cases::put_write_image(case, profile, counts, room, &units);
+            letter
         }
     }
 }
@@ -843,8 +1081,8 @@ mod tests {
     #[test]
     fn built_tables_are_sound() {
         let mut rng = Rng::new(4, 0);
-        for _ in 0..20_000 {
-            let table = built(&mut rng);
+        for _ in 0..40_000 {
+            let table = built(&mut rng, Profiles::Both);
             assert!(table.sound(), "{table:?}");
         }
     }
@@ -853,14 +1091,22 @@ mod tests {
     #[test]
     fn every_way_breaks() {
         let mut rng = Rng::new(5, 0);
-        for way in 0..WAYS {
+        for way in 0..WAYS_D {
+            let profiles = if way < WAYS {
+                Profiles::T
+            } else {
+                Profiles::Both
+            };
             let (mut broken, mut placed) = (0, 0);
             for _ in 0..2_000 {
                 let mut table = if rng.chance(50) {
-                    reached(&mut rng)
+                    reached(&mut rng, profiles)
                 } else {
-                    built(&mut rng)
+                    built(&mut rng, profiles)
                 };
+                if way >= ONLY_D && table.profile == Profile::T {
+                    continue;
+                }
                 if break_table(&mut rng, &mut table, way).is_some() {
                     placed += 1;
                     broken += !table.sound() as u32;
@@ -873,16 +1119,18 @@ mod tests {
     /// As many cases as the comparison asks every kind of next in line of.
     #[test]
     fn every_kind_of_next_is_put() {
-        let mut rng = Rng::new(6, 0);
-        let (mut case, mut kinds) = (Vec::new(), Kinds::default());
-        for _ in 0..20_000 {
-            put_any(&mut rng, &mut case, &mut kinds);
-            put_method(&mut rng, &mut case, &mut kinds);
-            case.clear();
-        }
-        for kind in lines::needed() {
-            let count = kinds.get(&kind).copied().unwrap_or_default();
-            assert!(count > 5, "{kind}: {count} of {kinds:?}");
+        for profiles in [Profiles::T, Profiles::Both] {
+            let mut rng = Rng::new(6, 0);
+            let (mut case, mut kinds) = (Vec::new(), Kinds::default());
+            for _ in 0..20_000 {
+                put_any(&mut rng, &mut case, &mut kinds, profiles);
+                put_method(&mut rng, &mut case, &mut kinds, profiles);
+                case.clear();
+            }
+            for kind in lines::needed(profiles) {
+                let count = kinds.get(&kind).copied().unwrap_or_default();
+                assert!(count > 1, "{kind}: {count} of {kinds:?}");
+            }
         }
     }
 }

@@ -116,7 +116,7 @@ fn run<R: Read, W: Write>(input: &mut Input<R>, output: &mut Output<W>) -> io::R
         table.second_class,
         table.counter,
     ];
-    script::put_header(output, b'E', numbers);
+    script::put_header(output, table.profile.output_letter(), numbers);
 
     let mut done = 0;
     loop {
@@ -212,6 +212,11 @@ mod tests {
         assert_eq!(columns("T\t32\t8\t8\t655350"), "X\t20\n");
         assert_eq!(columns("T\t32\t8\t8\t65535"), "X\t22\n");
         assert_eq!(columns("\n"), "X\t20\n");
+        assert_eq!(columns("D\t9\t1\t0\t0\n"), "F\t9\t1\t0\t0\n");
+        assert_eq!(columns("D\t9\t1\t1\t0\n"), "X\t20\n");
+        assert_eq!(columns("F\t9\t1\t0\t0\n"), "X\t20\n");
+        let both = "D\t9\t1\t0\t0\nT\t9\t1\t0\t0\n";
+        assert_eq!(columns(both), "F\t9\t1\t0\t0\nX\t21\n");
         let head = "T\t1\t1\t0\t0\n";
         let expected = |more: &str| format!("E\t1\t1\t0\t0\n{more}");
         assert_eq!(columns(head), expected(""));

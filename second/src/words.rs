@@ -1,6 +1,6 @@
 //! Register words and table images.
 
-use crate::table::{counts_in_range, Next, Register, Unit, MAX_UNITS};
+use crate::table::{Next, Profile, Register, Unit, MAX_UNITS};
 
 const VALID: u32 = 1 << 16;
 const FLAG: u32 = 1 << 17;
@@ -38,8 +38,9 @@ pub fn next_word(next: &Next) -> u32 {
 }
 
 /// Number of units and of words of an image, or refusal 20.
-fn extent(cores: u16, first_class: u16, second_class: u16) -> Result<(usize, usize), u8> {
-    if !counts_in_range(cores, first_class, second_class) {
+fn extent(profile: Profile, counts: [u16; 3]) -> Result<(usize, usize), u8> {
+    let [cores, first_class, second_class] = counts;
+    if !profile.counts_in_range(cores, first_class, second_class) {
         return Err(20);
     }
     let units = (first_class + second_class) as usize;
@@ -49,16 +50,15 @@ fn extent(cores: u16, first_class: u16, second_class: u16) -> Result<(usize, usi
 /// The units' registers and who is next at each; what is past the counts stays
 /// blank.
 pub fn read_image(
-    cores: u16,
-    first_class: u16,
-    second_class: u16,
+    profile: Profile,
+    counts: [u16; 3],
     words: &[u32],
 ) -> Result<[Unit; MAX_UNITS], u8> {
-    let (_, length) = extent(cores, first_class, second_class)?;
+    let (_, length) = extent(profile, counts)?;
     if words.len() != length {
         return Err(30);
     }
-    let cores = cores as usize;
+    let cores = counts[0] as usize;
     let mut units = [Unit::default(); MAX_UNITS];
     for (unit, words) in units.iter_mut().zip(words.chunks_exact(cores + 1)) {
         for (register, word) in unit.registers.iter_mut().zip(&words[..cores]) {
@@ -74,14 +74,13 @@ pub fn read_image(
 
 /// Fills `room`, or leaves it as it was on a refusal.
 pub fn write_image(
-    cores: u16,
-    first_class: u16,
-    second_class: u16,
+    profile: Profile,
+    counts: [u16; 3],
     units: &[Unit; MAX_UNITS],
     room: &mut [u32],
 ) -> Result<(), u8> {
-    let (count, length) = extent(cores, first_class, second_class)?;
-    let cores = cores as usize;
+    let (count, length) = extent(profile, counts)?;
+    let cores = counts[0] as usize;
     let writable = |unit: &Unit| {
         let registers = &unit.registers[..cores];
         registers.iter().all(|register| pack(*register).is_some())
@@ -102,6 +101,7 @@ pub fn write_image(
 #[cfg(test)]
 mod tests {
     use super::*;
+    use Profile::{D, T};
 
     #[test]
     fn words() {
@@ -168,7 +168,7 @@ mod tests {
 
     #[test]
     fn the_run() {
-        let units = read_image(3, 1, 1, &RUN).unwrap();
+        let units = read_image(T, [3, 1, 1], &RUN).unwrap();
         assert_eq!(
             units[0].registers[..3],
             [Register::default(), holding(1), waiting(0)]
@@ -186,7 +186,7 @@ mod tests {
         assert_eq!((units[0].next, units[1].next), (next(2), next(1)));
         assert_eq!(units[2..], [Unit::default(); 14]);
         let mut room = [7; 8];
-        assert_eq!(write_image(3, 1, 1, &units, &mut room), Ok(()));
+        assert_eq!(write_image(T, [3, 1, 1], &units, &mut room), Ok(()));
         assert_eq!(room, RUN);
         // Each word changed in each bit. A holder's ticket may be any, and core 1 may
         // wait with ticket 1 behind core 2; with 65535 core 0 were ahead of core 1.
@@ -195,16 +195,16 @@ mod tests {
                 let mut words = RUN;
                 words[at] ^= 1 << bit;
                 let good = matches!((at, bit), (1 | 4, 0..=15) | (1, 17));
-                let read = read_image(3, 1, 1, &words);
+                let read = read_image(T, [3, 1, 1], &words);
                 assert_eq!(read.is_ok(), good, "word {at} bit {bit}");
                 assert!(good || read == Err(30));
             }
         }
         // The words without the last of each unit.
         let without = [0, 196_609, 65_536, 262_143, 65_536, 0];
-        assert_eq!(read_image(3, 1, 1, &without), Err(30));
+        assert_eq!(read_image(T, [3, 1, 1], &without), Err(30));
         // One unit with its last word, without it, and with it before the cores'.
-        let read = |words: &[u32]| read_image(2, 1, 0, words).is_ok();
+        let read = |words: &[u32]| read_image(T, [2, 1, 0], words).is_ok();
         assert!(read(&[65_541, 196_612, 65_541]));
         assert!(!read(&[65_541, 196_612]));
         assert!(!read(&[65_541, 65_541, 196_612]));
@@ -255,11 +255,11 @@ mod tests {
                 .chain([next, next ^ FLAG, next ^ VALID, next ^ VALID ^ FLAG])
             {
                 let words = [&cores[..], &[other]].concat();
-                let read = read_image(count, 1, 0, &words);
+                let read = read_image(T, [count, 1, 0], &words);
                 assert_eq!(read.is_ok(), other == next, "{words:?}");
                 if let Ok(units) = read {
                     let mut room = vec![7; words.len()];
-                    assert_eq!(write_image(count, 1, 0, &units, &mut room), Ok(()));
+                    assert_eq!(write_image(T, [count, 1, 0], &units, &mut room), Ok(()));
                     assert_eq!(room, words);
                 }
             }
@@ -271,7 +271,7 @@ mod tests {
         let words = [
             65_536, 65_537, 65_536, 65_538, 0, 65_538, 65_540, 65_541, 65_540,
         ];
-        let units = read_image(2, 1, 2, &words).unwrap();
+        let units = read_image(T, [2, 1, 2], &words).unwrap();
         assert_eq!(units[1].registers[..2], [waiting(2), Register::default()]);
         let next = Next {
             ticket: 4,
@@ -281,28 +281,30 @@ mod tests {
         };
         assert_eq!(units[2].next, next);
         let mut room = [7; 9];
-        assert_eq!(write_image(2, 1, 2, &units, &mut room), Ok(()));
+        assert_eq!(write_image(T, [2, 1, 2], &units, &mut room), Ok(()));
         assert_eq!(room, words);
 
-        assert_eq!(read_image(2, 1, 2, &words[..8]), Err(30));
-        assert_eq!(read_image(2, 1, 9, &words), Err(20));
-        assert_eq!(read_image(0, 1, 1, &[]), Err(20));
+        assert_eq!(read_image(T, [2, 1, 2], &words[..8]), Err(30));
+        assert_eq!(read_image(T, [2, 1, 9], &words), Err(20));
+        assert_eq!(read_image(T, [0, 1, 1], &[]), Err(20));
+        assert_eq!(read_image(D, [2, 1, 2], &words), Err(20));
+        assert_eq!(read_image(D, [2, 3, 0], &words), Ok(units));
         let mut bad = words;
         bad[7] = 5;
-        assert_eq!(read_image(2, 1, 2, &bad), Err(30));
+        assert_eq!(read_image(T, [2, 1, 2], &bad), Err(30));
 
         let mut past = units;
         past[0][2] = holding(65_535); // past the counts
         past[3][0].ticket = 9;
         past[4].next.core = 3;
-        assert_eq!(write_image(2, 1, 2, &past, &mut room), Ok(()));
+        assert_eq!(write_image(T, [2, 1, 2], &past, &mut room), Ok(()));
         assert_eq!(room, words);
         let mut room = [7; 9];
         past[0].next = Next::of(&past[0].registers); // of a core past the counts
-        assert_eq!(write_image(2, 1, 2, &past, &mut room), Err(30));
+        assert_eq!(write_image(T, [2, 1, 2], &past, &mut room), Err(30));
         let mut ill = units;
         ill[1][1].ticket = 1;
-        assert_eq!(write_image(2, 1, 2, &ill, &mut room), Err(30));
+        assert_eq!(write_image(T, [2, 1, 2], &ill, &mut room), Err(30));
         for change in [
             |next: &mut Next| next.ticket = 5,
             |next: &mut Next| next.core = 1,
@@ -312,11 +314,12 @@ mod tests {
         ] {
             let mut wrong = units;
             change(&mut wrong[2].next);
-            assert_eq!(write_image(2, 1, 2, &wrong, &mut room), Err(30));
+            assert_eq!(write_image(T, [2, 1, 2], &wrong, &mut room), Err(30));
         }
         assert_eq!(room, [7; 9]);
-        assert_eq!(write_image(33, 1, 2, &units, &mut room), Err(20));
-        assert_eq!(write_image(2, 1, 2, &units, &mut room[..8]), Err(30));
-        assert_eq!(write_image(2, 1, 2, &units, &mut [7; 6]), Err(30));
+        assert_eq!(write_image(T, [33, 1, 2], &units, &mut room), Err(20));
+        assert_eq!(write_image(D, [2, 1, 2], &units, &mut room), Err(20));
+        assert_eq!(write_image(T, [2, 1, 2], &units, &mut room[..8]), Err(30));
+        assert_eq!(write_image(T, [2, 1, 2], &units, &mut [7; 6]), Err(30));
     }
 }

@@ -1,27 +1,33 @@
 //! One line written whole into lent bytes at a place, and cases of it.
 
 use crate::cases::{self, LENT_MAX};
-use crate::make::{any_counts, edge_counter};
+use crate::make::{any_counts, edge_counter, Profiles};
 use crate::rng::Rng;
 use crate::script::{put_header, put_outcome, put_step};
-use crate::table::{counts_in_range, Outcome, Step};
+use crate::table::{Outcome, Profile, Step};
 
 #[derive(Clone, Copy, Debug)]
 pub enum Line {
     /// A script's header.
-    Header([u16; 4]),
+    Header(Profile, [u16; 4]),
     Step(Step),
     /// A step number and what the step gave.
     Expected(u32, Outcome),
 }
 
 /// The letters of the cases.
-pub const LETTERS: [u8; 3] = *b"HLE";
+pub fn letters(profiles: Profiles) -> &'static [u8] {
+    match profiles {
+        Profiles::T => b"HLE",
+        Profiles::Both => b"HLEh",
+    }
+}
 
 impl Line {
     pub fn letter(&self) -> u8 {
         match self {
-            Line::Header(_) => b'H',
+            Line::Header(Profile::T, _) => b'H',
+            Line::Header(Profile::D, _) => b'h',
             Line::Step(_) => b'L',
             Line::Expected(..) => b'E',
         }
@@ -30,7 +36,7 @@ impl Line {
     fn bytes(&self) -> Vec<u8> {
         let mut bytes = Vec::new();
         match self {
-            Line::Header(numbers) => put_header(&mut bytes, b'T', *numbers),
+            Line::Header(profile, numbers) => put_header(&mut bytes, profile.letter(), *numbers),
             Line::Step(step) => put_step(&mut bytes, *step),
             Line::Expected(number, outcome) => put_outcome(&mut bytes, *number, outcome),
         }
@@ -39,8 +45,8 @@ impl Line {
 
     /// The place after the line, or refusal 20 or 23, which changes no byte.
     pub fn write(&self, lent: &mut [u8], place: usize) -> Result<usize, u8> {
-        if let Line::Header([cores, first, second, _]) = *self {
-            if !counts_in_range(cores, first, second) {
+        if let Line::Header(profile, [cores, first, second, _]) = *self {
+            if !profile.counts_in_range(cores, first, second) {
                 return Err(20);
             }
         }
@@ -92,7 +98,14 @@ fn any_header(rng: &mut Rng) -> [u16; 4] {
 
 fn any_line(rng: &mut Rng, letter: u8) -> Line {
     match letter {
-        b'H' => Line::Header(any_header(rng)),
+        b'H' => Line::Header(Profile::T, any_header(rng)),
+        b'h' => {
+            let mut numbers = any_header(rng);
+            if rng.chance(80) {
+                numbers[2] = 0;
+            }
+            Line::Header(Profile::D, numbers)
+        }
         b'L' => Line::Step(Step {
             kind: rng.pick(&cases::KINDS),
             core: any_u16(rng),
@@ -155,7 +168,7 @@ mod tests {
         assert_eq!(&lent, b"........");
         assert_eq!(step.write(&mut lent, 1), Ok(8));
 
-        let header = |cores| Line::Header([cores, 8, 0, 10]);
+        let header = |cores| Line::Header(Profile::T, [cores, 8, 0, 10]);
         let mut lent = *b"..........";
         assert_eq!(header(33).write(&mut lent, 60), Err(20));
         assert_eq!(header(8).write(&mut lent, 0), Err(23));
@@ -163,6 +176,13 @@ mod tests {
         let mut lent = *b"...........";
         assert_eq!(header(8).write(&mut lent, 0), Ok(11));
         assert_eq!(&lent, b"T\t8\t8\t0\t10\n");
+        let header = |second| Line::Header(Profile::D, [8, 8, second, 10]);
+        for second in [1, 8, 9, 65_535] {
+            assert_eq!(header(second).write(&mut lent, 60), Err(20));
+        }
+        assert_eq!(header(0).write(&mut lent, 1), Err(23));
+        assert_eq!(header(0).write(&mut lent, 0), Ok(11));
+        assert_eq!(&lent, b"D\t8\t8\t0\t10\n");
 
         let outcome = Outcome {
             answer: 20,
@@ -187,7 +207,8 @@ mod tests {
             grants: [(2, 3), (4, 5)],
         };
         for line in [
-            Line::Header([1, 1, 0, 9]),
+            Line::Header(Profile::T, [1, 1, 0, 9]),
+            Line::Header(Profile::D, [1, 1, 0, 9]),
             Line::Step(Step {
                 kind: Kind::Poll,
                 core: 1,
@@ -200,6 +221,7 @@ mod tests {
             cases::answer_to(&case, &mut out);
             let expected = match line.letter() {
                 b'H' => "H\t0\t11\t46\t84\t9\t49\t9\t49\t9\t48\t9\t57\t10\n",
+                b'h' => "h\t0\t11\t46\t68\t9\t49\t9\t49\t9\t48\t9\t57\t10\n",
                 b'L' => "L\t0\t5\t46\t80\t9\t49\t10\t46\t46\t46\t46\t46\t46\n",
                 _ => "E\t0\t10\t46\t53\t9\t49\t54\t9\t48\t9\t48\t10\t46\n",
             };

@@ -3,8 +3,7 @@
 //!
 //! Usage: bench STARTER OURS CHECKER SECOND COPY FOLDER REPETITIONS
 //! FOLDER has the scripts 0, 100000 and 1000000, named by their steps, the log of
-//! the last, and two scripts of 1,000,000 steps for 32 cores: few, in which few cores
-//! wait at a time, and many.
+//! the last, and those of `OTHERS`, of 1,000,000 steps each.
 
 use std::fs::{self, File};
 use std::io;
@@ -107,8 +106,14 @@ fn same(a: &Path, b: &Path) -> io::Result<bool> {
     Ok(status.success())
 }
 
-/// The scripts for 32 cores, by how many of them wait.
-const WAITING: [&str; 2] = ["few", "many"];
+/// Further scripts, by their names in the folder, with what is said of them: for 32
+/// cores, by how many of them wait at a time; and of profile D.
+const OTHERS: [(&str, &str); 4] = [
+    ("few", "32 cores, few waiting"),
+    ("many", "32 cores, many waiting"),
+    ("d", "D, 8 cores"),
+    ("d_many", "D, 32 cores"),
+];
 
 fn bench(words: &[String]) -> io::Result<i32> {
     let [starter, ours, checker, second, copy, folder, repetitions] = words else {
@@ -123,7 +128,8 @@ fn bench(words: &[String]) -> io::Result<i32> {
 
     // The answers stand ready for the copy of them.
     let (answers, output) = (folder.join("answers"), folder.join("output"));
-    for script in [folder.join("few"), folder.join("many"), script(1_000_000)] {
+    let others = OTHERS.map(|(name, _)| folder.join(name));
+    for script in others.into_iter().chain([script(1_000_000)]) {
         measure(starter, second, &script, &answers)?;
         measure(starter, ours, &script, &output)?;
         if !same(&answers, &output)? {
@@ -156,14 +162,9 @@ fn bench(words: &[String]) -> io::Result<i32> {
         "log of 1000000 steps".to_string(),
         folder.join("log"),
     ));
-    for waiting in WAITING {
+    for (file, what) in OTHERS {
         for (name, program) in [("ours", ours), ("second", second)] {
-            jobs.push((
-                name,
-                program,
-                format!("32 cores, {waiting} waiting"),
-                folder.join(waiting),
-            ));
+            jobs.push((name, program, what.to_string(), folder.join(file)));
         }
     }
     let mut runs: Vec<Vec<Measured>> = jobs.iter().map(|_| Vec::new()).collect();
@@ -217,10 +218,10 @@ fn bench(words: &[String]) -> io::Result<i32> {
         "at 1000000 steps, ours to second: {}",
         ratio(&rows[2], rows[5].wall, rows[5].cpu)
     );
-    for (at, waiting) in WAITING.iter().enumerate() {
+    for (at, (_, what)) in OTHERS.iter().enumerate() {
         let [ours, second] = [&rows[11 + 2 * at], &rows[12 + 2 * at]];
         println!(
-            "with 32 cores and {waiting} waiting, ours to second: {}",
+            "{what}, ours to second: {}",
             ratio(ours, second.wall, second.cpu)
         );
     }

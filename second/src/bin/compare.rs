@@ -1,10 +1,12 @@
 //! Command line of the comparison; see `second::compare`.
 
 use second::compare::{compare, Options};
+use second::make::Profiles;
 
 const USAGE: &str = "usage: compare [STEPS [SEED]] [OPTION NUMBER]...
   STEPS             steps' worth of good scripts (3000000)
   SEED              (1)
+  --profiles N      1: profile T alone; 2: half of all is of D (2)
   --damaged N       damaged scripts in batches (50000)
   --singles N       damaged scripts with a process of their own (400)
   --others N        soundness, word and image cases (60000)
@@ -27,6 +29,7 @@ fn main() {
         starter: std::env::var("RUN_OURS").unwrap_or_else(|_| "second/run-ours".to_string()),
         steps: 3_000_000,
         seed: 1,
+        profiles: Profiles::Both,
         damaged: 50_000,
         singles: 400,
         others: 60_000,
@@ -50,6 +53,13 @@ fn main() {
             "--help" => {
                 println!("{USAGE}");
                 return;
+            }
+            "--profiles" => {
+                options.profiles = match value() {
+                    1 => Profiles::T,
+                    2 => Profiles::Both,
+                    _ => usage(),
+                }
             }
             "--damaged" => options.damaged = value(),
             "--singles" => options.singles = value(),
