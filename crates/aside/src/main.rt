@@ -9,6 +9,7 @@ use console::explain;
 use console::follow;
 use console::put_number;
 use console::say_unwritten;
+use console::within;
 use pieces::work;
 use room::room_for;
 use stops::Run;
@@ -42,15 +43,16 @@ fn turn(p: Progress, input: &mut [u8], output: &mut [u8]) -> Progress {
     let stands = s.run;
     let next = follow(stands, have, why, Text::Script, input);
     if next.over {
-        last(next.run, why);
+        let n = within(have, input);
+        last(next.run, why, &input[..n]);
     }
     next
 }
 
 // The room for the steps that were worked, if the header was good; else what is wrong with it.
-fn last(run: Run, why: Stop) {
+fn last(run: Run, why: Stop, piece: &[u8]) {
     if !run.headed {
-        return explain(run, why, Text::Script);
+        return explain(run, why, Text::Script, piece);
     }
     if !put_number(room_for(run.steps as u64), b"\n") {
         say_unwritten();

@@ -62,13 +62,14 @@ fn turn(p: Progress, input: &mut [u8]) -> Progress {
 fn plain(run: Run, have: usize, why: Stop, input: &mut [u8]) -> Progress {
     let next = follow(run, have, why, Text::Log, input);
     if next.over {
-        last(next.run, why);
+        let n = within(have, input);
+        last(next.run, why, &input[..n]);
     }
     next
 }
 
 // Accepted; or the number and the line at which the run stands, and what is wrong with it.
-fn last(run: Run, why: Stop) {
+fn last(run: Run, why: Stop, piece: &[u8]) {
     let n = stops::stop_number(why);
     if n == 0 {
         return accept(run);
@@ -76,7 +77,7 @@ fn last(run: Run, why: Stop) {
     let stopped = put_number(n as u64, b"\t");
     let at = put_number(line_number(run), b"\n");
     if stopped & at {
-        explain(run, why, Text::Log);
+        explain(run, why, Text::Log, piece);
     } else {
         say_unwritten();
     }

@@ -1,9 +1,15 @@
 // What our programs share: a piece of a text read on standard input, where a program stands in its run, and why a
 // run stopped, said on standard error.
+mod shown;
+mod wrong;
+
+use crate::shown::say_shown;
+use crate::wrong::say_fault;
+use faults::Form;
+use faults::fault_at;
 use libc::STDERR_FILENO;
 use libc::STDIN_FILENO;
 use libc::STDOUT_FILENO;
-use parts::CORES;
 use pieces::fronted;
 use pieces::keep;
 use stops::Run;
@@ -133,10 +139,10 @@ pub fn put_number(n: u64, after: &[u8]) -> bool {
     written & whole
 }
 
-// The text's line at which the run stands, and what is wrong with it.
-pub fn explain(run: Run, why: Stop, text: Text) {
+// The text's line at which the run stands, and what is wrong with it; the piece has the line's bytes.
+pub fn explain(run: Run, why: Stop, text: Text, piece: &[u8]) {
     say_line(run);
-    reason(why, text);
+    reason(why, text, piece, run.place);
 }
 
 pub fn say_line(run: Run) {
@@ -145,29 +151,36 @@ pub fn say_line(run: Run) {
     say(b": ");
 }
 
-fn reason(why: Stop, text: Text) {
+fn reason(why: Stop, text: Text, piece: &[u8], at: usize) {
     match why {
         Stop::Finished => say(b"finished\n"),
         Stop::Unsound => say(b"the table is not sound (16)\n"),
-        Stop::BadHeader => bad_header(),
-        Stop::Malformed => malformed(text),
+        Stop::BadHeader => refused(b"not a header: ", Form::Header, piece, at, b" (20)\n"),
+        Stop::Malformed => malformed(text, piece, at),
         Stop::Unfinished => of_text(text, b" ends before the line does (22)\n"),
         Stop::NoRoom => say(b"no room for the answer (23)\n"),
         Stop::TooMany => say(b"a line after 1000000 steps (24)\n"),
     }
 }
 
-fn bad_header() {
-    say(b"not a header T or D with 1 to ");
-    say_number(CORES as u64);
-    say(b" cores, 1 to 8 and 0 to 8 units, in D 0, and a counter (20)\n");
+fn malformed(text: Text, piece: &[u8], at: usize) {
+    match text {
+        Text::Script => refused(b"not a step line: ", Form::Script, piece, at, b" (21)\n"),
+        Text::Log => refused(b"not a log line: ", Form::Log, piece, at, b" (21)\n"),
+    }
 }
 
-fn malformed(text: Text) {
-    match text {
-        Text::Script => say(b"not a step line (21)\n"),
-        Text::Log => say(b"not a log line (21)\n"),
-    }
+// What is wrong with the line at a place, and the line.
+fn refused(what: &[u8], form: Form, piece: &[u8], at: usize, number: &[u8]) {
+    say(what);
+    say_fault(fault_at(form, piece, at), form, letter_at(piece, at));
+    say_shown(piece, at);
+    say(number);
+}
+
+// The first byte of the line at a place, if there is one.
+fn letter_at(piece: &[u8], at: usize) -> u8 {
+    if at < piece.len() { piece[at] } else { 0 }
 }
 
 fn of_text(text: Text, what: &[u8]) {

@@ -48,7 +48,8 @@ fn turn(p: Progress, input: &mut [u8], output: &mut [u8]) -> Progress {
     }
     let next = follow(stands, have, why, Text::Script, input);
     if next.over {
-        last(next.run, why);
+        let n = within(have, input);
+        last(next.run, why, &input[..n]);
     }
     next
 }
@@ -64,12 +65,16 @@ fn sent(output: &[u8], wrote: usize) -> bool {
 }
 
 // Stopped by the script: the last line of the output, and what is wrong with the script's line.
-fn last(run: Run, why: Stop) {
+fn last(run: Run, why: Stop, piece: &[u8]) {
     let n = stops::stop_number(why);
     if n == 0 {
         return;
     }
-    io::write_all(STDOUT_FILENO, b"X\t");
-    put_number(n as u64, b"\n");
-    explain(run, why, Text::Script);
+    let letter = io::write_all(STDOUT_FILENO, b"X\t");
+    let number = put_number(n as u64, b"\n");
+    if letter & number {
+        explain(run, why, Text::Script, piece);
+    } else {
+        say_unwritten();
+    }
 }
