@@ -2,6 +2,8 @@
 //
 // It translates the script and keeps nothing of the answers: the steps that were worked are the step lines
 // that the script has. A script without a good header is told on standard error, and nothing is written.
+#![tactic(auto)]
+
 use console::{Progress, Text, begun, explain, follow, put_number, say_unwritten, within};
 use pieces::work;
 use room::room_for;

@@ -5,6 +5,8 @@
 // `Table::release`.
 // Seams: for a run that knows its table to be sound `Table::step_sound`, and `Table::skipped`, the table on which that step is
 // worked; for one that works its units apart `rows_of`, `nexts_of`, `unit_with`, `gathered`.
+#![tactic(auto)]
+
 mod apart;
 mod methods;
 mod skipping;

@@ -7,7 +7,7 @@ use parts::{Answer, Grants};
 use ticket::Ticket;
 
 // The next table, and what the tester must see: the answer, the ticket and the grants.
-#[derive(Drop)]
+#[derive(Clone, Copy)]
 pub struct Stepped {
     pub table: Table,
     pub answer: Answer,

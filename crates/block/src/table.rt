@@ -5,7 +5,7 @@
 use parts::{CORES, Core, Counts, LockUnit, UNITS};
 use ticket::Ticket;
 
-#[derive(Drop)]
+#[derive(Clone, Copy)]
 pub struct Table {
     pub units: [LockUnit; UNITS],
     pub cores: [Core; CORES],

@@ -7,7 +7,7 @@ use parts::{Answer, CORES, Counts, Fill, Profile, UNITS, empty_unit, idle, in_ra
 use ticket::Ticket;
 
 // The table that was built, with 0 or 20 for its answer.
-#[derive(Drop)]
+#[derive(Clone, Copy)]
 pub struct Built {
     pub table: Table,
     pub answer: Answer,

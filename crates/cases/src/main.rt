@@ -35,6 +35,8 @@
 //
 // A case that the end of the input cuts off, another letter, a number of words above 600 and one of bytes
 // lent above 64 end the program.
+#![tactic(auto)]
+
 mod bytes;
 mod image;
 mod logged;
@@ -58,7 +60,7 @@ use writers::BYTES_MOST;
 
 // The place of the next case in the piece, how many bytes of the piece are input, how many bytes of
 // answers wait to be written, and whether to go on.
-#[derive(Drop)]
+#[derive(Clone, Copy)]
 struct Progress {
     at: usize,
     have: usize,
@@ -68,7 +70,7 @@ struct Progress {
 
 // What stands at a place: a case that was answered, with the places after it and after its answer; the
 // start of a case; or no case.
-#[derive(Drop)]
+#[derive(Clone, Copy)]
 enum Found {
     Answered(usize, usize),
     Cut,

@@ -2,6 +2,8 @@
 // stopped it with the log's line, and for 40 the field that is off. What is wrong is said on standard error.
 //
 // It holds one piece of the log.
+#![tactic(auto)]
+
 use console::{
     Progress, Text, begun, ended, explain, follow, line_number, put_number, say, say_line,
     say_number, say_unwritten, within,

@@ -1,5 +1,7 @@
 // The comparing program: two tickets on standard input, as a line of two numbers; what the first is, seen from
 // the second, on standard output. Anything else is told on standard error, and nothing is written.
+#![tactic(auto)]
+
 mod pair;
 
 use libc::{STDERR_FILENO, STDIN_FILENO, STDOUT_FILENO};

@@ -6,7 +6,7 @@ use numbers::{Field, read_field};
 use ticket::{Comparison, Ticket, compare};
 
 // What two numbers read as tickets compare as, or that there are not two.
-#[derive(Drop)]
+#[derive(Clone, Copy)]
 pub enum Told {
     Malformed,
     Says(Comparison),

@@ -1,5 +1,7 @@
 // What our programs share: a piece of a text read on standard input, where a program stands in its run, and why a
 // run stopped, said on standard error.
+#![tactic(auto)]
+
 mod shown;
 mod wrong;
 
@@ -15,7 +17,7 @@ use pieces::{fronted, keep};
 use stops::{Run, Stop};
 
 // What a program reads, by the word for it.
-#[derive(Drop)]
+#[derive(Clone, Copy)]
 pub enum Text {
     Script,
     Log,
@@ -23,7 +25,7 @@ pub enum Text {
 
 // Where a program stands: its run, how many bytes of its piece are the text's, whether it goes on, and whether the
 // run is over, so that how it ended is to be told.
-#[derive(Drop)]
+#[derive(Clone, Copy)]
 pub struct Progress {
     pub run: Run,
     pub have: usize,
@@ -33,7 +35,7 @@ pub struct Progress {
 
 // What a read behind the bytes that were kept gave: so many bytes there are now; the text has ended; it
 // cannot be read.
-#[derive(Drop)]
+#[derive(Clone, Copy)]
 enum More {
     Have(usize),
     Ended,

@@ -2,6 +2,8 @@
 //
 // Seams, for the writers of lines, which ask for the room before the first byte is put: `put_number`, `put_tabbed`, `put_ticket`,
 // `width`, `tabbed_width`, `has_room`.
+#![tactic(auto)]
+
 mod room;
 mod text;
 

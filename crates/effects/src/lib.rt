@@ -1,6 +1,8 @@
 // "The steps": the effect of each, when it is allowed.
 //
 // Seam, for the plan of a step: `step_effect`.
+#![tactic(auto)]
+
 mod kinds;
 mod steps;
 

@@ -7,7 +7,7 @@ use loglines::LOG_MOST;
 use parts::{CORES, PER_CLASS, Profile, dequeues};
 
 // What a line is read as.
-#[derive(Drop)]
+#[derive(Clone, Copy)]
 pub enum Form {
     Script,
     Log,
@@ -15,7 +15,7 @@ pub enum Form {
 }
 
 // What follows a line's letter: the numbers of a step; those of a log's line; those of a header of a profile.
-#[derive(Drop)]
+#[derive(Clone, Copy)]
 pub enum Kind {
     Step,
     Logged,
@@ -23,7 +23,7 @@ pub enum Kind {
 }
 
 // Why a field is no number.
-#[derive(Drop)]
+#[derive(Clone, Copy)]
 pub enum Wrong {
     Missing,
     Sign,
@@ -35,7 +35,7 @@ pub enum Wrong {
 
 // What is wrong with a line: no end within the longest one; a carriage return before its end; no byte; the letter; too few
 // numbers or too many; a field, counted from 1 with the letter; a count of a header.
-#[derive(Drop)]
+#[derive(Clone, Copy)]
 pub enum Fault {
     NoFault,
     TooLong,
@@ -51,7 +51,7 @@ pub enum Fault {
 }
 
 // A byte of a number: a tab behind it, a digit with the value so far, or none.
-#[derive(Drop)]
+#[derive(Clone, Copy)]
 pub enum Look {
     Tab,
     Digit(u16),
@@ -59,7 +59,7 @@ pub enum Look {
 }
 
 // Up to a byte of a line: the field, and its digits, some or none, with their value.
-#[derive(Drop)]
+#[derive(Clone, Copy)]
 pub struct Upto {
     pub field: usize,
     pub some: bool,
@@ -67,7 +67,7 @@ pub struct Upto {
 }
 
 // A byte more: on, or what is wrong.
-#[derive(Drop)]
+#[derive(Clone, Copy)]
 pub enum Next {
     On(Upto),
     Stop(Fault),

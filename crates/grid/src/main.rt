@@ -3,6 +3,8 @@
 // grants, and unit and core of each grant, parted by tabs.
 //
 // The stored output is what second/grid.py prints: a model written from documents 01 and 02 alone.
+#![tactic(auto)]
+
 mod dequeueing;
 mod dropping;
 mod steps;

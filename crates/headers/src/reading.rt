@@ -8,7 +8,7 @@ use parts::{Counts, Fill, Profile, in_range};
 use ticket::Ticket;
 
 // The bytes of a line as a header.
-#[derive(Drop)]
+#[derive(Clone, Copy)]
 pub enum ParsedHeader {
     Good(Counts, Ticket),
     Not,
@@ -16,7 +16,7 @@ pub enum ParsedHeader {
 
 // What stands at a place before the header: a good header and the place after its line; something
 // else, 20; a line that is not finished, 22.
-#[derive(Drop)]
+#[derive(Clone, Copy)]
 pub enum HeaderLine {
     Header(Counts, Ticket, usize),
     BadHeader,

@@ -14,7 +14,7 @@ use words::{Packed, Unpacked, pack, unpack};
 
 // 0: done. 20: counts out of range. 30: a bad word or register, another next in line than that of the registers, or a
 // number of words that is not units times cores and one.
-#[derive(Drop)]
+#[derive(Clone, Copy)]
 pub enum ImageAnswer {
     Done,
     OutOfRange,
@@ -22,7 +22,7 @@ pub enum ImageAnswer {
 }
 
 // The registers that an image shows, and who is next in line at each unit; all blank where it was refused.
-#[derive(Drop)]
+#[derive(Clone, Copy)]
 pub struct Image {
     pub units: [LockUnit; UNITS],
     pub answer: ImageAnswer,

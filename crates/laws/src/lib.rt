@@ -1,2 +1,3 @@
 // No code: what holds of every step of the block. Steps keep a table sound, picking gives the oldest,
 // and what a step grants.
+#![tactic(auto)]

@@ -11,7 +11,7 @@ use ticket::{CoreNo, UnitNo};
 pub const LINE_MOST: usize = 15;
 
 // Where a line ends: the place of its end; or not within the longest line; or not yet.
-#[derive(Drop)]
+#[derive(Clone, Copy)]
 pub enum Ending {
     At(usize),
     Long,
@@ -19,7 +19,7 @@ pub enum Ending {
 }
 
 // The bytes of a line as a step.
-#[derive(Drop)]
+#[derive(Clone, Copy)]
 pub enum Parsed {
     Good(Step),
     Not,
@@ -27,7 +27,7 @@ pub enum Parsed {
 
 // What stands at a place after the header: a step and the place after its line; nothing; a malformed
 // line, 21; a line that is not finished, 22.
-#[derive(Drop)]
+#[derive(Clone, Copy)]
 pub enum StepLine {
     Line(Step, usize),
     Finished,
@@ -133,7 +133,7 @@ fn parse_step(s: &[u8]) -> Parsed
 }
 
 // A step line whose numbers have one digit each: its letter and its numbers. Or some other line.
-#[derive(Drop)]
+#[derive(Clone, Copy)]
 enum Short {
     One(u8, CoreNo),
     Two(u8, CoreNo, UnitNo),

@@ -1,6 +1,8 @@
 // A line of a captured log: its step part and the numbers shown behind it, read, and held to what the rules give.
 //
 // Every public function is a seam of the check.
+#![tactic(auto)]
+
 mod line;
 mod quick;
 mod seen;

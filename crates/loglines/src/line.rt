@@ -22,7 +22,7 @@ pub fn log_end(s: &[u8], at: usize) -> Ending
 
 // The step part of a line without its end: the step, how many numbers it has, and the place of the field behind it,
 // 0 where there is none. Or no step.
-#[derive(Drop)]
+#[derive(Clone, Copy)]
 pub enum Part {
     Step(Step, u32, usize),
     Not,
@@ -89,7 +89,7 @@ fn two_numbers(letter: u8, k: CoreNo, u: UnitNo, from: usize) -> Part
 }
 
 // What the numbers behind the step part come to: one is none, 21; the first that is off; all as given.
-#[derive(Drop)]
+#[derive(Clone, Copy)]
 pub enum Judged {
     Malformed,
     Disagrees(Off),

@@ -8,7 +8,7 @@ use parts::Step;
 use ticket::{CoreNo, UnitNo};
 
 // The step, and the place of the tab behind its part; or some other line.
-#[derive(Drop)]
+#[derive(Clone, Copy)]
 pub enum Quick {
     Step(Step, usize),
     Other,

@@ -7,7 +7,7 @@ use parts::{Answer, Grants, number};
 use ticket::{Grant, Ticket};
 
 // A field's number, or that there is no such field.
-#[derive(Drop)]
+#[derive(Clone, Copy)]
 pub enum Seen {
     Missing,
     Number(u16),
@@ -15,7 +15,7 @@ pub enum Seen {
 
 // The first field that is off: its number in the line, its place behind the step part, what the log shows and what
 // the rules give.
-#[derive(Drop)]
+#[derive(Clone, Copy)]
 pub struct Off {
     pub field: u32,
     pub place: u32,
@@ -24,7 +24,7 @@ pub struct Off {
 }
 
 // What the rules give for a step.
-#[derive(Drop)]
+#[derive(Clone, Copy)]
 pub struct Given {
     pub answer: Answer,
     pub ticket: Ticket,

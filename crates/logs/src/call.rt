@@ -29,7 +29,7 @@ use ticket::Ticket;
 const SHOWN_MOST: usize = 88;
 
 // Why a call stopped: as a translation does, never for want of room; or 40, the line disagrees.
-#[derive(Drop)]
+#[derive(Clone, Copy)]
 pub enum LogStop {
     Plain(Stop),
     Disagrees(Off),
@@ -45,7 +45,7 @@ pub fn log_number(why: LogStop) -> u16
     }
 }
 
-#[derive(Drop)]
+#[derive(Clone, Copy)]
 pub struct Checked {
     pub run: Run,
     pub why: LogStop,
@@ -67,7 +67,7 @@ fn given_by(p: Plan) -> Given
 
 // Where the numbers behind a step part stand: from the tab at a place, if the part was read quickly; else in the line that ends at a
 // place, behind so many numbers of the step.
-#[derive(Drop)]
+#[derive(Clone, Copy)]
 pub(crate) struct Behind {
     quick: bool,
     from: usize,
@@ -76,7 +76,7 @@ pub(crate) struct Behind {
 }
 
 // What is due at a place: a step, and where its numbers stand; or why the run stops.
-#[derive(Drop)]
+#[derive(Clone, Copy)]
 enum Due {
     Work(Step, Behind),
     Stop(Stop),
@@ -134,7 +134,7 @@ fn part_due(line: &[u8], end: usize) -> Due
 }
 
 // What a line comes to: it agrees, and the next one starts there; or why the run stops.
-#[derive(Drop)]
+#[derive(Clone, Copy)]
 enum Met {
     Agrees(usize),
     Stop(LogStop),

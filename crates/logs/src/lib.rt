@@ -2,6 +2,8 @@
 // the rules give, up to the first line that disagrees.
 //
 // Every public function is an entry: none has a `requires`.
+#![tactic(auto)]
+
 mod call;
 
 pub use call::{Checked, LogStop, check, log_number};

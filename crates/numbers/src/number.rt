@@ -3,7 +3,7 @@ ghost use Rattle.std.specs.Prelude.{◌≡◌, cond, ◌+◌, ◌-◌, ◌*◌, 
 ghost use Rattle.numbers.specs.Number.{number_most, follows, field};
 
 // A field that is a number and ends its line, one that a tab ends with the place after it, or neither.
-#[derive(Drop)]
+#[derive(Clone, Copy)]
 pub enum Field {
     Bad,
     Last(u16),

@@ -1,5 +1,7 @@
 // Writes what the comparison answers to the seven pairs of document 01's proved table, and to pairs on both sides of
 // each border, with and without a wrap: a line each, the two tickets and what the first is, seen from the second.
+#![tactic(auto)]
+
 use libc::STDOUT_FILENO;
 use ticket::{Comparison, Ticket};
 

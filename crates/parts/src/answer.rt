@@ -5,7 +5,7 @@ ghost use Rattle.parts.specs.Answer.{whose, number_of};
 use ticket::{CoreNo, Grant, UnitNo};
 
 // A step of a script, by its letter.
-#[derive(Drop)]
+#[derive(Clone, Copy)]
 pub enum Step {
     // Asks for a unit.
     R(CoreNo, UnitNo),
@@ -22,7 +22,7 @@ pub enum Step {
 }
 
 // What a step, or building a table, is answered.
-#[derive(Drop)]
+#[derive(Clone, Copy)]
 pub enum Answer {
     // 0: the step is done.
     Done,
@@ -49,7 +49,7 @@ pub enum Answer {
 }
 
 // The grants of a step, by rising unit.
-#[derive(Drop)]
+#[derive(Clone, Copy)]
 pub enum Grants {
     None,
     One(Grant),

@@ -3,6 +3,8 @@
 // Entries: `in_range`, `number`, `whose`. Seams, for the crates that plan and work steps: registers, units and cores as
 // they are made (`blank`, `standing`, `flagged`, `empty_unit`, `registered`, `next_in_line`, `showing`, `idle`,
 // `core`, `dropped`), and the tests of a state and of a profile.
+#![tactic(auto)]
+
 mod answer;
 mod kinds;
 mod made;

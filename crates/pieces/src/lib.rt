@@ -5,6 +5,8 @@
 // moves to its front.
 //
 // Every public function is an entry: none has a `requires`.
+#![tactic(auto)]
+
 ghost use Rattle.std.specs.Prelude.{◌≡◌, cond, ltb, length, take};
 ghost use Rattle.digits.specs.Text.{pasted};
 ghost use Rattle.calls.specs.Call.{call, stopped, output};

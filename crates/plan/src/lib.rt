@@ -2,6 +2,8 @@
 // counter, and what the tester must see.
 //
 // Seams, for a run that knows its table to be sound: `Part::of`, `plan_step`.
+#![tactic(auto)]
+
 mod grants;
 mod planning;
 

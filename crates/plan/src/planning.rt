@@ -13,7 +13,7 @@ use settling::{Change, carry, enter, leave, stay, stored};
 use ticket::{CoreNo, Ticket, UnitNo};
 
 // What a step reads of a unit at one of its places: the register of its core, and what the unit shows.
-#[derive(Drop)]
+#[derive(Clone, Copy)]
 pub struct Part {
     pub register: Register,
     pub next: Next,
@@ -30,7 +30,7 @@ impl Part {
 
 // What becomes of the units at a step's places, of the core and of the counter; and what the tester must see. Where both
 // places are the same, the second stays as it is. A step that does not move leaves both.
-#[derive(Drop)]
+#[derive(Clone, Copy)]
 pub struct Plan {
     pub first: Change,
     pub second: Change,

@@ -3,6 +3,8 @@
 // A case is a letter, a length byte, and so many bytes: S, a script after its header; H, a script before
 // it; W, a register word, lowest byte first. The cases and the stored answers are what
 // second/readings.py makes, from documents 01 and 02 alone.
+#![tactic(auto)]
+
 ghost use Rattle.std.specs.Prelude.{◌<◌};
 
 use headers::HeaderLine;

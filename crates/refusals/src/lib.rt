@@ -2,6 +2,8 @@
 // tickets.
 //
 // Seams, for the plan of a step: `judge`; for who works a table: `is_live`, `lives_of`, `owns_of`, `late_for`.
+#![tactic(auto)]
+
 mod tickets;
 mod verdict;
 

@@ -8,7 +8,7 @@ use parts::{
 };
 use ticket::{CoreNo, UnitNo};
 
-#[derive(Drop)]
+#[derive(Clone, Copy)]
 pub enum Verdict {
     Allowed,
     Refused(Answer),

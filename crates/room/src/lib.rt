@@ -1,6 +1,8 @@
 // The bytes to set aside for the output of a script, told before it is translated.
 //
 // Every public function is an entry: none has a `requires`.
+#![tactic(auto)]
+
 ghost use Rattle.std.specs.Prelude.{◌≡◌, ◌≤◌};
 ghost use Rattle.stops.specs.Run.{steps_most};
 ghost use Rattle.room.specs.Room.{workable, room_for};

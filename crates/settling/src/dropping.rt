@@ -13,7 +13,7 @@ use parts::{CORES, Core, LockUnit, Register, blank, dropped, is_away, showing};
 use ticket::{Ticket, compare};
 
 // A unit and the cores of its table.
-#[derive(Drop)]
+#[derive(Clone, Copy)]
 pub struct Dropping {
     pub unit: LockUnit,
     pub cores: [Core; CORES],

@@ -4,6 +4,8 @@
 // Seams: `next_of`, `next_shown`, `shown` and `shows_next`, by the registers; `stored`, `stay`, `enter`, `leave` and `carry`, by what a
 // unit shows, for the effect and the plan of a step; `changed`, and its parts `passed_to`, `with_flag` and `repicked`, for putting that
 // back; `drop_away`, for a unit that is to settle while some in line are away.
+#![tactic(auto)]
+
 mod dropping;
 mod line;
 mod next;

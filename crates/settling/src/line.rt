@@ -11,7 +11,7 @@ use parts::{CORES, LockUnit, Next, Register};
 use ticket::{CoreNo, Ticket};
 
 // The core that is next in line at a unit, and its ticket.
-#[derive(Drop)]
+#[derive(Clone, Copy)]
 pub enum Best {
     Nobody,
     Won(CoreNo, Ticket),

@@ -14,7 +14,7 @@ use ticket::{CoreNo, Ticket, compare};
 
 // What becomes of a unit in which a core moves: the core's register, what the unit shows, and who gets its flag. With
 // `repick` the next in line went away, and the pairs are gone through for another.
-#[derive(Drop)]
+#[derive(Clone, Copy)]
 pub struct Change {
     pub register: Register,
     pub next: Next,

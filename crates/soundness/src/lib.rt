@@ -1,6 +1,8 @@
 // Soundness: a test for each clause that speaks of a table's cores, and for each that speaks of one unit.
 //
 // Seams, for the table's test: `cores_sound`, `unit_sound`.
+#![tactic(auto)]
+
 mod cores;
 mod units;
 

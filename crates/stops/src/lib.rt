@@ -1,6 +1,8 @@
 // A run so far, why it stops, and what is due at its next line.
 //
 // Every public function is an entry: none has a `requires`.
+#![tactic(auto)]
+
 mod run;
 mod todo;
 

@@ -11,7 +11,7 @@ use ticket::Ticket;
 pub const STEPS_MOST: u32 = 1000000;
 
 // The places are those of the next line in the script, and of the next line in the output.
-#[derive(Drop)]
+#[derive(Clone, Copy)]
 pub struct Run {
     pub place: usize,
     pub wrote: usize,
@@ -23,7 +23,7 @@ pub struct Run {
 // Why a call stopped: nothing left; 16, the table is not sound; 20, no good header; 21, a malformed
 // line; 22, a line that is not finished; 23, no room for the next output line; 24, a line after
 // 1,000,000 steps or more.
-#[derive(Drop)]
+#[derive(Clone, Copy)]
 pub enum Stop {
     Finished,
     Unsound,
@@ -34,7 +34,7 @@ pub enum Stop {
     TooMany,
 }
 
-#[derive(Drop)]
+#[derive(Clone, Copy)]
 pub struct Stopped {
     pub run: Run,
     pub why: Stop,

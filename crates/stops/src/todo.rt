@@ -8,7 +8,7 @@ use parts::Step;
 
 // The line at a place after the header: a step to work, with the place after its line; or why the run
 // stops there. Room is asked for later.
-#[derive(Drop)]
+#[derive(Clone, Copy)]
 pub enum Todo {
     Work(Step, usize),
     Stop(Stop),

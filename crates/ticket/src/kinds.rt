@@ -4,19 +4,19 @@ ghost use Rattle.std.specs.Prelude.{◌≡◌};
 ghost use Rattle.ticket.specs.Kinds.{grant};
 
 // A core, counted from 0.
-#[derive(Drop)]
+#[derive(Clone, Copy)]
 pub struct CoreNo(pub u16);
 
 // A lock unit, counted from 0: the first class, then the second.
-#[derive(Drop)]
+#[derive(Clone, Copy)]
 pub struct UnitNo(pub u16);
 
 // A ticket: what the 16-bit counter stood at when its request was accepted.
-#[derive(Drop)]
+#[derive(Clone, Copy)]
 pub struct Ticket(pub u16);
 
 // A unit, and the core that it goes to.
-#[derive(Drop)]
+#[derive(Clone, Copy)]
 pub struct Grant {
     pub unit: UnitNo,
     pub core: CoreNo,

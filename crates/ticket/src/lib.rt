@@ -3,6 +3,8 @@
 //
 // Every function is an entry: none has a `requires`, and each contract is an equation with a
 // definition of specs/.
+#![tactic(auto)]
+
 mod issue;
 mod kinds;
 mod order;

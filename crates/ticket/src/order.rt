@@ -6,7 +6,7 @@ ghost use Rattle.ticket.specs.Order.{behind, compare, after};
 use crate::kinds::Ticket;
 
 // What the first of two tickets is, seen from the second.
-#[derive(Drop)]
+#[derive(Clone, Copy)]
 pub enum Comparison {
     Older,
     Younger,

@@ -2,6 +2,8 @@
 // hands back the run with why it stopped.
 //
 // Every public function is an entry: none has a `requires`.
+#![tactic(auto)]
+
 mod call;
 
 pub use call::translate;

@@ -2,6 +2,8 @@
 //
 // It holds one piece of the script and one of the answers. Stopped by the script, it writes the line X
 // with the number; what stopped it is said on standard error, with the script's line.
+#![tactic(auto)]
+
 use console::{Progress, Text, begun, ended, explain, follow, put_number, say_unwritten, within};
 use libc::STDOUT_FILENO;
 use pieces::work;

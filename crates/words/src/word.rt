@@ -6,14 +6,14 @@ use parts::Register;
 use ticket::Ticket;
 
 // The word of a register, or 30: an invalid register has ticket 0 and no flag.
-#[derive(Drop)]
+#[derive(Clone, Copy)]
 pub enum Packed {
     Word(u32),
     Refused,
 }
 
 // The register of a word, or 30.
-#[derive(Drop)]
+#[derive(Clone, Copy)]
 pub enum Unpacked {
     Register(Register),
     Refused,
