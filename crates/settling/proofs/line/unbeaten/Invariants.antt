@@ -1,0 +1,24 @@
+-- Before place a, best is the one of those at the places below a that did not lose.
+use borrow.Author.Rules.{rules}
+use Prim.Native.Nat.{ℕ, ◌+◌, ◌-◌, ◌≤◌}
+use mathlib.Core.Bool.{Bool}
+use mathlib.Core.List.{List}
+use mathlib.Core.Path.{◌≡◌}
+use lib.ListN.{length}
+use Rattle.parts.specs.Fold.{up_to}
+use Rattle.parts.proofs.Folds.{none, more, finished}
+use Rattle.settling.specs.Pairs.{kept}
+use Rattle.settling.specs.declared.line.Best.{Best}
+use Rattle.settling.specs.declared.line.Best.TheVariants.{Nobody}
+use Rattle.settling.proofs.line.unbeaten.Given as goal
+
+abbrev pub invariant-loop-a : goal.invariant-loop-a
+invariant-loop-a l =
+    (l.c ≤ length l.who) ×
+    (l.c ≤ length l.line) ×
+    (l.c ≤ length l.lost) ×
+    (l.a ≤ l.c) ×
+    (l.best ≡ up_to (kept l.who l.line l.lost) l.a Nobody)
+
+abbrev pub decreases-loop-a : goal.decreases-loop-a
+decreases-loop-a l = l.c - l.a

@@ -1,0 +1,27 @@
+-- Before place a, the marks below a are written, and `last` is whether one of those below a is not younger.
+use borrow.Author.Rules.{rules}
+use Prim.Native.Nat.{ℕ, ◌+◌, ◌-◌, ◌≤◌, ◌<◌}
+use mathlib.Core.Bool.{Bool, false, ◌||◌, not}
+use mathlib.Core.List.{List}
+use mathlib.Core.Path.{◌≡◌, ◌∙◌, ap}
+use native.Mathlib.Omega.{arith}
+use lib.ListN.{length, length-set, get_or, set}
+use Rattle.ticket.specs.Order.{compare}
+use Rattle.ticket.specs.declared.order.Comparison.{Comparison}
+use Rattle.parts.specs.Fold.{up_to, some}
+use Rattle.parts.proofs.Folds.{none, more, finished}
+use Rattle.settling.specs.Line.{is_older}
+use Rattle.settling.specs.Pairs.{is_younger, overtakes, met}
+use Rattle.settling.proofs.pairs.column.Given as goal
+
+abbrev pub invariant-loop-a : goal.invariant-loop-a
+invariant-loop-a l =
+    (l.c ≤ length l.line) ×
+    (l.c ≤ length l.initial.lost) ×
+    (length l.lost ≡ length l.initial.lost) ×
+    (l.a ≤ l.c) ×
+    (l.last ≡ some (overtakes l.line l.t.0) l.a) ×
+    (l.lost ≡ up_to (met l.line l.t.0) l.a l.initial.lost)
+
+abbrev pub decreases-loop-a : goal.decreases-loop-a
+decreases-loop-a l = l.c - l.a
