@@ -13,7 +13,7 @@ use Rattle.ticket.specs.declared.kinds.Ticket.{Ticket}
 use Rattle.ticket.specs.declared.order.Comparison.TheVariants.{Older}
 use Rattle.parts.specs.Fold.{up_to, one, count}
 use Rattle.parts.specs.State.{is_away}
-use Rattle.parts.specs.Parts.{cores, blank, idle, dropped, register_in, registered}
+use Rattle.parts.specs.Parts.{blank, idle, dropped, register_in, registered}
 use Rattle.parts.specs.declared.kinds.Core.{Core}
 use Rattle.parts.specs.declared.kinds.Register.{Register}
 use Rattle.parts.specs.declared.kinds.LockUnit.{LockUnit}

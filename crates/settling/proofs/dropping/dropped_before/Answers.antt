@@ -1,12 +1,9 @@
 use borrow.Author.Rules.{rules}
-use Prim.Native.Nat.{◌≤◌, ◌-◌}
-use mathlib.Core.Logic.{⊎_elim}
-use mathlib.Core.Path.{◌≡◌, ◌∙◌, ap₂}
-use Rattle.parts.specs.Parts.{cores}
+use mathlib.Core.Path.{◌∙◌, ap₂}
 use Rattle.settling.specs.Dropping.{dropping}
-use Rattle.settling.specs.InFront.{dropped_before}
 use Rattle.settling.proofs.InFront.{before_first, before_goes, before_stays, before_last}
 use Rattle.settling.proofs.dropping.dropped_before.Goals as goal
+use Rattle.settling.proofs.dropping.dropped_before.Goals.{then-goes, else-goes}
 
 pub loop-k-init : goal.loop-k-init
 loop-k-init c = search (before_first, rules)
@@ -18,12 +15,12 @@ loop-k-preserved c =
     let g = c.goes in (
       l.invariant.0,
       search rules,
-      ⊎_elim
-          (λ u.
-          ap₂ dropping u.3 u.4 ∙
-          before_goes a.first a.unit a.all l.k l.x l.left l.invariant.2 g.result g.ensures u.0.taken _ _ u.1.ensures u.2.ensures)
-          (λ u. ap₂ dropping u.1 u.2 ∙ before_stays a.first a.unit a.all l.k l.x l.left l.invariant.2 g.result g.ensures u.0.left)
-          c.if-goes.branch,
+      elim c.if-goes.branch [
+        | then-goes u ↦
+            ap₂ dropping u.x-is u.left-is ∙
+            before_goes a.first a.unit a.all l.k l.x l.left l.invariant.2 g.result g.ensures u.if-goes.true _ _ u.blank.ensures u.dropped.ensures
+        | else-goes u ↦ ap₂ dropping u.x-is u.left-is ∙ before_stays a.first a.unit a.all l.k l.x l.left l.invariant.2 g.result g.ensures u.if-goes.false
+      ],
     )
 
 pub returns : goal.returns

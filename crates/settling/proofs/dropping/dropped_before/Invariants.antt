@@ -1,12 +1,9 @@
 -- After k turns, those of the first k who go are dropped, and the others are as they were.
-use borrow.Author.Rules.{rules}
 use Prim.Native.Nat.{◌≤◌, ◌-◌}
-use mathlib.Core.Logic.{⊎_elim}
-use mathlib.Core.Path.{◌≡◌, ◌∙◌, ap₂}
+use mathlib.Core.Path.{◌≡◌}
 use Rattle.parts.specs.Parts.{cores}
 use Rattle.settling.specs.Dropping.{dropping}
 use Rattle.settling.specs.InFront.{dropped_before}
-use Rattle.settling.proofs.InFront.{before_first, before_goes, before_stays, before_last}
 use Rattle.settling.proofs.dropping.dropped_before.Given as goal
 
 abbrev pub invariant-loop-k : goal.invariant-loop-k

@@ -1,8 +1,4 @@
 use borrow.Author.Rules.{rules}
-use Prim.Native.Nat.{◌≤◌, ◌-◌}
-use mathlib.Core.Path.{◌≡◌}
-use Rattle.parts.specs.Parts.{cores}
-use Rattle.settling.specs.InFront.{present}
 use Rattle.settling.proofs.InFront.{present_first, present_on, present_last}
 use Rattle.settling.proofs.dropping.present.Goals as goal
 

@@ -1,10 +1,8 @@
 -- After k turns, those of the first k who are away are gone from the unit.
-use borrow.Author.Rules.{rules}
 use Prim.Native.Nat.{◌≤◌, ◌-◌}
 use mathlib.Core.Path.{◌≡◌}
 use Rattle.parts.specs.Parts.{cores}
 use Rattle.settling.specs.InFront.{present}
-use Rattle.settling.proofs.InFront.{present_first, present_on, present_last}
 use Rattle.settling.proofs.dropping.present.Given as goal
 
 abbrev pub invariant-loop-k : goal.invariant-loop-k

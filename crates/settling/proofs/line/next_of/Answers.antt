@@ -1,8 +1,7 @@
 use borrow.Author.Rules.{rules}
-use Prim.Native.Nat.{ℕ, ◌+◌, ◌≤◌, ◌<◌, ◌-◌}
+use Prim.Native.Nat.{ℕ, ◌+◌, ◌≤◌, ◌<◌}
 use mathlib.Core.Bool.{Bool, true, false}
 use mathlib.Core.List.{List}
-use mathlib.Core.Logic.{⊎_elim}
 use mathlib.Core.Path.{◌≡◌, refl, sym, ◌∙◌, ap}
 use native.Mathlib.Nat.{le_antisymm}
 use native.Mathlib.Omega.{arith}
@@ -18,6 +17,7 @@ use Rattle.settling.proofs.Beaten.{picks}
 use Rattle.settling.proofs.Lining.{lined_is, lined_more}
 use Rattle.settling.proofs.Marking.{Marked, marked_none, marked_on, marked_by, picked}
 use Rattle.settling.proofs.line.next_of.Goals as goal
+use Rattle.settling.proofs.line.next_of.Goals.{then-in_line, else-in_line}
 
 abbrev line : ℕ → List ℕ → List ℕ → Line
 line c who tickets = record { count = c; who = who; tickets = tickets }
@@ -98,18 +98,18 @@ loop-j-preserved c =
     let p = c.loop-j in
     let says = c.in_line.ensures in
     let h = c.loop-j-test.true in
-    ⊎_elim
-    (λ w. (
-      refl,
-      p.invariant.1,
-      search rules,
-      search rules,
-      joins a.t2 a.n p.j p.c p.who p.line p.invariant.1 p.invariant.2 p.invariant.4 _ says _ _ _ w.0.taken w.6 w.7 w.9,
-      judges a.t2 a.n p.j p.c p.who p.line p.invariant.1 p.invariant.2 p.invariant.4 _ says p.lost p.invariant.5 h _ _ _ p.invariant.3 w.0.taken
-          w.4.ensures.0 w.4.ensures.1 w.8,
-    ))
-    (λ w. search (passes, stays, rules))
-    c.if-in_line.branch
+    elim c.if-in_line.branch [
+      | then-in_line w ↦ (
+        refl,
+        p.invariant.1,
+        search rules,
+        search rules,
+        joins a.x a.n p.j p.c p.who p.line p.invariant.1 p.invariant.2 p.invariant.4 _ says _ _ _ w.if-in_line.true w.who-is w.line-is w.c-is,
+        judges a.x a.n p.j p.c p.who p.line p.invariant.1 p.invariant.2 p.invariant.4 _ says p.lost p.invariant.5 h _ _ _ p.invariant.3 w.if-in_line.true
+            w.column-last.ensures.0 w.column-last.ensures.1 w.lost-is,
+      )
+      | else-in_line w ↦ search (passes, stays, rules)
+    ]
 
 pub slice_bounds-unbeaten-end : goal.slice_bounds-unbeaten-end
 slice_bounds-unbeaten-end c = search (who_long, rules)

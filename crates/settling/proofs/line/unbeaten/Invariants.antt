@@ -1,14 +1,9 @@
 -- Before place a, best is the one of those at the places below a that did not lose.
-use borrow.Author.Rules.{rules}
-use Prim.Native.Nat.{ℕ, ◌+◌, ◌-◌, ◌≤◌}
-use mathlib.Core.Bool.{Bool}
-use mathlib.Core.List.{List}
+use Prim.Native.Nat.{◌-◌, ◌≤◌}
 use mathlib.Core.Path.{◌≡◌}
 use lib.ListN.{length}
 use Rattle.parts.specs.Fold.{up_to}
-use Rattle.parts.proofs.Folds.{none, more, finished}
 use Rattle.settling.specs.Pairs.{kept}
-use Rattle.settling.specs.declared.line.Best.{Best}
 use Rattle.settling.specs.declared.line.Best.TheVariants.{Nobody}
 use Rattle.settling.proofs.line.unbeaten.Given as goal
 

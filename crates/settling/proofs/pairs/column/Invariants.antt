@@ -1,17 +1,9 @@
 -- Before place a, the marks below a are written, and `last` is whether one of those below a is not younger.
-use borrow.Author.Rules.{rules}
-use Prim.Native.Nat.{ℕ, ◌+◌, ◌-◌, ◌≤◌, ◌<◌}
-use mathlib.Core.Bool.{Bool, false, ◌||◌, not}
-use mathlib.Core.List.{List}
-use mathlib.Core.Path.{◌≡◌, ◌∙◌, ap}
-use native.Mathlib.Omega.{arith}
-use lib.ListN.{length, length-set, get_or, set}
-use Rattle.ticket.specs.Order.{compare}
-use Rattle.ticket.specs.declared.order.Comparison.{Comparison}
+use Prim.Native.Nat.{◌-◌, ◌≤◌}
+use mathlib.Core.Path.{◌≡◌}
+use lib.ListN.{length}
 use Rattle.parts.specs.Fold.{up_to, some}
-use Rattle.parts.proofs.Folds.{none, more, finished}
-use Rattle.settling.specs.Line.{is_older}
-use Rattle.settling.specs.Pairs.{is_younger, overtakes, met}
+use Rattle.settling.specs.Pairs.{overtakes, met}
 use Rattle.settling.proofs.pairs.column.Given as goal
 
 abbrev pub invariant-loop-a : goal.invariant-loop-a
