@@ -34,7 +34,7 @@ no_core n k = leb n.cores k.0
 abbrev pub no_unit : Counts → UnitNo → Bool
 no_unit n u = leb (n.first + n.second) u.0
 
--- 13: "unit is first_class, or the held one is second-class"
+-- 13: "unit is first-class, or the held one is second-class"
 abbrev pub wrong_class : Counts → UnitNo → UnitNo → Bool
 wrong_class n held u = ltb u.0 n.first || leb n.first held.0
 

@@ -29,7 +29,7 @@ fn no_unit(counts: Counts, u: UnitNo) -> bool
     u.0 as u32 >= all
 }
 
-// 13: the unit is first_class, or the held one is second-class.
+// 13: the unit is first-class, or the held one is second-class.
 fn wrong_class(counts: Counts, held: UnitNo, u: UnitNo) -> bool
     ensures { result ≡ wrong_class counts held u }
 {

@@ -1,0 +1,27 @@
+use Rattle.std.proofs.Common.{ℕ, ◌≡◌, ◌+◌, Bool, ◌&&◌, ◌||◌, ◌∙◌, List, false, get_or, rules, ap}
+use Rattle.ticket.specs.Order.{compare}
+use Rattle.ticket.specs.declared.kinds.Ticket.{Ticket}
+use Rattle.ticket.specs.declared.order.Comparison.{Comparison}
+use Rattle.parts.proofs.Folds.{none, finished}
+use Rattle.parts.proofs.Loops.{some_more}
+use Rattle.refusals.specs.Judge.{far}
+use Rattle.refusals.specs.Tickets.{old_at, stretched_by}
+use Rattle.refusals.proofs.tickets.stretched.Goals as goal
+
+one_more :
+    (m : Ticket) (ls : List Bool) (os : List ℕ) (k : ℕ) (x : Comparison) (b any : Bool) →
+    x ≡ compare (get_or os k 0) m.0 →
+    b ≡ far x →
+    any ≡ stretched_by m ls os k →
+    (any || (get_or ls k false && b)) ≡ stretched_by m ls os (k + 1)
+one_more m ls os k x b any says is so =
+    some_more (old_at m ls os) k any (get_or ls k false && b) so (ap (λ (b : Bool). get_or ls k false && b) (is ∙ ap far says))
+
+pub loop-k-init : goal.loop-k-init
+loop-k-init c = search (none, rules)
+
+pub loop-k-preserved : goal.loop-k-preserved
+loop-k-preserved c = search (one_more, rules)
+
+pub returns : goal.returns
+returns c = search (finished, rules)
