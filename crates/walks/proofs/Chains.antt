@@ -1,7 +1,7 @@
 -- The replies to a script, without an output, are one chain. A walk works a stretch of it, which stays a stretch with more bytes after the
 -- script. Of two stretches from one place, one is a beginning of the other; and output bytes enough for the whole chain are enough.
-use Prim.Native.Nat.{ℕ, zero, suc, ◌+◌, ◌-◌, ◌≤◌, ◌<◌}
-use mathlib.Core.Bool.{Bool, true, false, ◌&&◌}
+use Prim.Native.Nat.{ℕ, zero, suc, ◌+◌, ◌≤◌, ◌<◌}
+use mathlib.Core.Bool.{true}
 use mathlib.Core.List.{List, [], ◌∷◌, ◌++◌, append_assoc}
 use mathlib.Core.Logic.{◌⊎◌, inl, inr, ◌≢◌}
 use mathlib.Core.Path.{◌≡◌, refl, sym, ◌∙◌, ap, subst}
@@ -14,7 +14,7 @@ use Rattle.parts.proofs.Bools.{and_left, and_right, and_both, clash}
 use Rattle.digits.specs.Text.{pasted}
 use Rattle.walks.specs.Walk.{Reply, Turn, Steady, Output, has_room, put, Desk, replied, Ended, walked}
 use Rattle.walks.proofs.Pasting.{fits_says, pasted_nothing, pasted_twice}
-use Rattle.walks.proofs.Along.{asked, room, Goes, Full, Halts, along}
+use Rattle.walks.proofs.Along.{asked, Goes, Halts, along}
 use Rattle.walks.proofs.Kept.{kept}
 
 -- what replies say in one output

@@ -1,6 +1,6 @@
 -- A walk that stopped, taken up again with more input and room, leaves what one walk with all of it leaves. Every line that it answered is
 -- answered the same with more bytes after the script and more room after the outputs, so the longer walk comes by the same desks.
-use Prim.Native.Nat.{ℕ, ◌+◌, ◌≤◌}
+use Prim.Native.Nat.{ℕ, ◌+◌}
 use mathlib.Core.Bool.{true}
 use mathlib.Core.List.{List, ◌++◌}
 use mathlib.Core.Path.{◌≡◌, refl, sym, ◌∙◌, ap}

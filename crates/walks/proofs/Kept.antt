@@ -9,7 +9,7 @@ use native.Mathlib.Omega.{arith}
 use lib.ListN.{length, take, drop}
 use lib.Seq.{take-take, drop-drop}
 use Rattle.parts.proofs.Bools.{and_left, and_right}
-use Rattle.walks.specs.Walk.{Reply, Turn, Steady, Output, has_room, put, Desk, replied, Ended, halted, walked}
+use Rattle.walks.specs.Walk.{Reply, Turn, Steady, Output, has_room, put, Desk, Ended, walked}
 use Rattle.walks.specs.Claims.{Kept}
 use Rattle.walks.proofs.Pasting.{fits_says, take_before, drop_after, pasted_length}
 use Rattle.walks.proofs.Along.{Goes, Halts, along}

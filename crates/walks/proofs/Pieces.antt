@@ -1,18 +1,17 @@
 -- For every split of a script into pieces, and of the room into pieces, the walks made one after another leave what one walk with all of it
 -- leaves. Each works a stretch of the script's one chain of replies, and the stretches join; a walk that stops for another reason than room has
 -- come to the chain's end.
-use Prim.Native.Nat.{ℕ, ◌+◌, ◌≤◌}
+use Prim.Native.Nat.{ℕ, ◌≤◌}
 use mathlib.Core.List.{List, [], ◌∷◌, ◌++◌, append_assoc, append-nil}
 use mathlib.Core.Logic.{◌⊎◌, inl, inr, ⊎_elim, ◌≢◌}
 use mathlib.Core.Path.{◌≡◌, refl, sym, ◌∙◌, ap, subst}
-use native.Mathlib.Nat.{le_refl}
 use native.Mathlib.Omega.{arith}
-use lib.ListN.{length, take, drop}
-use Rattle.walks.specs.Walk.{Reply, Turn, Steady, Output, Desk, Ended, walked}
+use lib.ListN.{length, take}
+use Rattle.walks.specs.Walk.{Reply, Turn, Steady, Output, Desk, walked}
 use Rattle.walks.specs.Pieces.{Piece, Going, begun, lent, fresh, written, given, pieces, all_more}
 use Rattle.walks.proofs.Pasting.{take_with}
 use Rattle.walks.proofs.Along.{asked, Halts}
-use Rattle.walks.proofs.Chains.{text, said, also, text_append, Wrote, Chain, chain_append, chain_more, beginning, at_end, Stretch, stretch, room_enough}
+use Rattle.walks.proofs.Chains.{said, also, text_append, Wrote, Chain, chain_append, chain_more, beginning, at_end, Stretch, stretch, room_enough}
 
 -- the same bytes in one piece
 abbrev in_one : List Piece → List ℕ → List ℕ → Piece

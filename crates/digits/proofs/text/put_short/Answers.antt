@@ -2,14 +2,14 @@
 use borrow.Author.Rules.{rules}
 use Prim.Native.Nat.{ℕ, ◌+◌, ◌/◌, ◌%◌, ◌<◌, ◌≤◌}
 use mathlib.Core.List.{List}
-use mathlib.Core.Path.{◌≡◌, refl, ◌∙◌}
+use mathlib.Core.Path.{refl}
 use native.Mathlib.Omega.{arith}
 use lib.ListN.{length, set, length-set}
 use Rattle.numbers.specs.Number.{decimal}
 use Rattle.digits.specs.Text.{two, four, Puts}
 use Rattle.digits.proofs.Lengths.{decimal_least}
 use Rattle.digits.proofs.Parts.{three_digits, four_digits, three_length, four_length}
-use Rattle.digits.proofs.Pasting.{one, then, kept}
+use Rattle.digits.proofs.Pasting.{one, then}
 use Rattle.digits.proofs.text.put_short.Goals as goal
 
 module _ (o : List ℕ) (at n : ℕ) (room : at + length (decimal n) ≤ length o) where

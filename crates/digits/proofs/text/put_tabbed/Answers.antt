@@ -1,16 +1,14 @@
 -- A tab, and then the number.
-use borrow.Author.Rules.{rules}
 use Prim.Native.Nat.{ℕ, ◌+◌, ◌<◌, ◌≤◌}
 use mathlib.Core.List.{List}
-use mathlib.Core.Path.{◌≡◌, refl}
+use mathlib.Core.Path.{refl}
 use native.Mathlib.Omega.{arith}
 use lib.ListN.{length, set, length-set}
-use Rattle.numbers.specs.Number.{decimal}
 use Rattle.numbers.specs.Bytes.{tab}
 use Rattle.digits.specs.Text.{tabbed, Puts}
 use Rattle.digits.proofs.Lengths.{decimal_least}
 use Rattle.digits.proofs.Parts.{one_digit}
-use Rattle.digits.proofs.Pasting.{one, pair, then, kept}
+use Rattle.digits.proofs.Pasting.{pair}
 use Rattle.digits.proofs.text.put_tabbed.Goals as goal
 
 module _ (o : List ℕ) (at n : ℕ) (room : at + length (tabbed n) ≤ length o) where

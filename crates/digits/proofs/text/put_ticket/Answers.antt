@@ -9,7 +9,7 @@ use Rattle.numbers.specs.Bytes.{tab}
 use Rattle.numbers.specs.Number.{decimal}
 use Rattle.digits.specs.Text.{tabbed, four, Puts}
 use Rattle.digits.proofs.Parts.{one_digit, more_digits}
-use Rattle.digits.proofs.Pasting.{pair, then, kept}
+use Rattle.digits.proofs.Pasting.{pair, then}
 use Rattle.digits.proofs.text.put_ticket.Goals as goal
 
 -- the five digits of a ticket of 10,000 or more

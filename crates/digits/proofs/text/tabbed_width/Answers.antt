@@ -1,5 +1,4 @@
 -- A number of sixteen bits has at most five digits.
-use borrow.Author.Rules.{rules}
 use native.Mathlib.Omega.{arith}
 use Rattle.digits.proofs.Lengths.{decimal_five}
 use Rattle.digits.proofs.text.tabbed_width.Goals as goal
