@@ -11,7 +11,7 @@
 //   beginning. `B`, the stop's number, and how many bytes are written.
 // - G: u16 length, and so many bytes of log: one call of the check, from the beginning. `G`, the stop's
 //   number; then for 40 the line and the field, for 0 the steps that agreed, for any other the line.
-// - S: a table. u16 cores, first_class units, second-class units and counter; `CORES` cores of u16 own,
+// - S: a table. u16 cores, first-class units, second-class units and counter; `CORES` cores of u16 own,
 //   carried, first and second and u8 state (0 idle, 1 waiting, 2 holding, 3 waiting second, 4 holding
 //   both, 5 away, 6 marked, from 7 on dropped); 16 units. `S`, and 1 if it is sound, else 0.
 // - M: a step by a method of the table. The table as in S; u8 letter (0 R, 1 N, 2 P, 3 I, 4 C, from 5 on
@@ -19,13 +19,13 @@
 //   grants, unit and core of each; and the table handed back, its numbers in the order of S.
 // - W: u32, a register word. `W`, 30; or `W`, 0, ticket, valid and flag.
 // - P: a register. `P`, 30; or `P`, 0 and its word.
-// - I: u16 cores, first_class units, second-class units and number of words, at most 600; the words, a
+// - I: u16 cores, first-class units, second-class units and number of words, at most 600; the words, a
 //   u32 each. `I`, 20 or 30; or `I`, 0, and for each unit of the image ticket, valid and flag of each of
 //   its registers, and ticket, core, valid and held of its next in line.
-// - O: u16 cores, first_class units, second-class units and number of words lent, at most 600; 16
+// - O: u16 cores, first-class units, second-class units and number of words lent, at most 600; 16
 //   units. `O`, 20 or 30; or `O`, 0, and the image's words.
 // - H, L and E: a line by `write_header`, `write_step` or `write_expected`, into lent bytes which each
-//   hold `.`. u16 number of bytes lent, at most 64, and u16 place. Then for H, u16 cores, first_class
+//   hold `.`. u16 number of bytes lent, at most 64, and u16 place. Then for H, u16 cores, first-class
 //   units, second-class units and counter; for L, the step as in M; for E, u32 step number, u8 answer
 //   (by its place among 0, 1, 2, 10 to 16 and 20, from 10 on 20), u16 ticket, u8 number of grants (from
 //   2 on 2), and two times u16 unit and u16 core. The letter; 20, 23, or 0 and the next place; and
@@ -52,8 +52,8 @@ ghost use Rattle.std.specs.Prelude.{◌≡◌, length};
 
 use bytes::half;
 use image::WORDS_MOST;
-use libc::STDIN_FILENO;
 use pieces::keep;
+use std::io::{Read, Stdin, Stdout};
 use table::{IMAGE_SIZE, TABLE_SIZE};
 use text::{eased, flush, put};
 use writers::BYTES_MOST;
@@ -77,10 +77,10 @@ enum Found {
     Unknown,
 }
 
-fn main() {
+fn main(rt: HostRuntime) {
     let mut input = piece();
-    let mut out = io::large_buffer();
-    every_turn(&mut input, &mut out);
+    let mut out = [0; 65536];
+    every_turn(rt, &mut input, &mut out);
 }
 
 // Room for the longest case, of 65,538 bytes.
@@ -91,20 +91,18 @@ fn piece() -> [u8; 131072]
 }
 
 // A turn answers a case, reads, or is the last; no input uses them up.
-fn every_turn(input: &mut [u8], out: &mut [u8]) {
+fn every_turn(rt: HostRuntime, input: &mut [u8], out: &mut [u8]) {
     let mut now = going(0, 0, 0);
-    let mut turns = u64::MAX;
-    while 0 < turns {
-        now = turn(now, input, out);
+    for _ in 0..u64::MAX {
+        now = turn(rt, now, input, out);
         if !now.on {
             return;
         }
-        turns -= 1;
     }
 }
 
 // The next case of the piece, and what follows from what stands there.
-fn turn(p: Progress, input: &mut [u8], out: &mut [u8]) -> Progress {
+fn turn(rt: HostRuntime, p: Progress, input: &mut [u8], out: &mut [u8]) -> Progress {
     let at = p.at;
     let have = p.have;
     let wrote = p.wrote;
@@ -112,11 +110,11 @@ fn turn(p: Progress, input: &mut [u8], out: &mut [u8]) -> Progress {
         return ended();
     }
     let z = 0;
-    match next_case(&input[z..have], at, out, wrote) {
+    match next_case(rt.stdout(), &input[z..have], at, out, wrote) {
         Found::Answered(next, w) => going(next, have, w),
-        Found::Cut => read_on(at, have, wrote, input, out),
+        Found::Cut => read_on(rt, at, have, wrote, input, out),
         Found::Unknown => {
-            flush(out, wrote);
+            flush(rt.stdout(), out, wrote);
             ended()
         }
     }
@@ -142,12 +140,19 @@ fn ended() -> Progress {
 
 // The answers go out before more is waited for. What is left of the piece moves to its front, and more
 // of the input is read after it.
-fn read_on(at: usize, have: usize, wrote: usize, input: &mut [u8], out: &[u8]) -> Progress {
-    if !flush(out, wrote) {
+fn read_on(
+    rt: HostRuntime,
+    at: usize,
+    have: usize,
+    wrote: usize,
+    input: &mut [u8],
+    out: &[u8],
+) -> Progress {
+    if !flush(rt.stdout(), out, wrote) {
         return ended();
     }
     let rest = keep(input, at, have);
-    let now = read_after(input, rest);
+    let now = read_after(rt.stdin(), input, rest);
     if now <= rest {
         return ended();
     }
@@ -155,18 +160,19 @@ fn read_on(at: usize, have: usize, wrote: usize, input: &mut [u8], out: &[u8]) -
 }
 
 // One read into the piece, after the bytes that were kept. Answers how many bytes there are then.
-fn read_after(input: &mut [u8], rest: usize) -> usize {
+fn read_after(cases: Stdin, input: &mut [u8], rest: usize) -> usize {
+    let mut cases = cases;
     if input.len() < rest {
         return 0;
     }
-    let more = &mut input[rest..];
-    let got = libc::read(STDIN_FILENO, more);
-    let n = io::count(got, more);
-    rest + n
+    match cases.read(&mut input[rest..]) {
+        Ok(n) => rest + n,
+        Err(_) => rest,
+    }
 }
 
 // The case at a place is answered if all of it is there.
-fn next_case(s: &[u8], at: usize, out: &mut [u8], wrote: usize) -> Found {
+fn next_case(to: Stdout, s: &[u8], at: usize, out: &mut [u8], wrote: usize) -> Found {
     if s.len() <= at {
         return Found::Cut;
     }
@@ -180,7 +186,7 @@ fn next_case(s: &[u8], at: usize, out: &mut [u8], wrote: usize) -> Found {
     }
     let next = at + n;
     let z = 0;
-    let w = answer_line(&rest[z..n], out, wrote);
+    let w = answer_line(to, &rest[z..n], out, wrote);
     Found::Answered(next, w)
 }
 
@@ -242,16 +248,16 @@ fn writers_size(letter: u8, lent: usize) -> usize {
 }
 
 // The answer of a whole case and its line end. Answers the place after it in the output.
-fn answer_line(s: &[u8], out: &mut [u8], wrote: usize) -> usize {
-    let at = eased(out, wrote);
-    let to = answer(s, out, at);
-    put(out, to, b"\n")
+fn answer_line(to: Stdout, s: &[u8], out: &mut [u8], wrote: usize) -> usize {
+    let at = eased(to, out, wrote);
+    let end = answer(to, s, out, at);
+    put(out, end, b"\n")
 }
 
-fn answer(s: &[u8], out: &mut [u8], wrote: usize) -> usize {
+fn answer(to: Stdout, s: &[u8], out: &mut [u8], wrote: usize) -> usize {
     let letter = bytes::capital(s);
     if letter == b'T' {
-        return scripts::answer(s, out, wrote);
+        return scripts::answer(to, s, out, wrote);
     }
     if letter == b'B' {
         return scripts::answer_lent(s, out, wrote);

@@ -3,16 +3,17 @@ ghost use Rattle.std.specs.Prelude.{◌≡◌, length};
 
 use crate::bytes::half;
 use crate::text::{eased, flush, head, long_field, put};
+use std::io::Stdout;
 use stops::Run;
 
 // Document 01's number for an output that the next line does not fit.
 const NO_ROOM: u16 = 23;
 
-pub(crate) fn answer(s: &[u8], out: &mut [u8], wrote: usize) -> usize {
+pub(crate) fn answer(to: Stdout, s: &[u8], out: &mut [u8], wrote: usize) -> usize {
     if s.len() < 3 {
         return wrote;
     }
-    translated(&s[3..], out, wrote)
+    translated(to, &s[3..], out, wrote)
 }
 
 pub(crate) fn answer_lent(s: &[u8], out: &mut [u8], wrote: usize) -> usize {
@@ -47,7 +48,7 @@ fn call_once(script: &[u8], space: &mut [u8], out: &mut [u8], wrote: usize) -> u
 
 // The script is translated, the output emptied whenever it is full, which a script's lines do far fewer
 // times than there are turns.
-fn translated(script: &[u8], out: &mut [u8], wrote: usize) -> usize {
+fn translated(to: Stdout, script: &[u8], out: &mut [u8], wrote: usize) -> usize {
     let mut run = begun(wrote);
     let mut turns = 1000u32;
     while 0 < turns {
@@ -56,9 +57,9 @@ fn translated(script: &[u8], out: &mut [u8], wrote: usize) -> usize {
         let n = stops::stop_number(why);
         run = x.run;
         if n != NO_ROOM {
-            return end(out, run.wrote, n as u32);
+            return end(to, out, run.wrote, n as u32);
         }
-        run = emptied(run, out);
+        run = emptied(to, run, out);
         turns -= 1;
     }
     0
@@ -72,19 +73,19 @@ fn begun(wrote: usize) -> Run {
 }
 
 // The run with its output written.
-fn emptied(run: Run, out: &[u8]) -> Run {
+fn emptied(to: Stdout, run: Run, out: &[u8]) -> Run {
     let mut r = run;
-    flush(out, r.wrote);
+    flush(to, out, r.wrote);
     r.wrote = 0;
     r
 }
 
 // The last line where the run was stopped by a number, and the answer's own last line.
-fn end(out: &mut [u8], wrote: usize, n: u32) -> usize {
-    let at = eased(out, wrote);
+fn end(to: Stdout, out: &mut [u8], wrote: usize, n: u32) -> usize {
+    let at = eased(to, out, wrote);
     if n == 0 {
         return put(out, at, b"--");
     }
-    let to = head(out, at, b'X', n);
-    put(out, to, b"\n--")
+    let x = head(out, at, b'X', n);
+    put(out, x, b"\n--")
 }

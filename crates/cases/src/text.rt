@@ -1,24 +1,24 @@
 // Answers as text, gathered in the output and written when much of it stands there.
-use libc::STDOUT_FILENO;
+use std::io::Stdout;
 
 // The room that an answer's fields never use up.
 const ROOM: usize = 32768;
 
 // Writes the answers that stand in the output.
-pub(crate) fn flush(out: &[u8], wrote: usize) -> bool {
+pub(crate) fn flush(to: Stdout, out: &[u8], wrote: usize) -> bool {
     if out.len() < wrote {
         return false;
     }
     let z = 0;
-    io::write_all(STDOUT_FILENO, &out[z..wrote])
+    to.write_all(&out[z..wrote]).is_ok()
 }
 
 // Makes room for an answer where little is left.
-pub(crate) fn eased(out: &[u8], wrote: usize) -> usize {
+pub(crate) fn eased(to: Stdout, out: &[u8], wrote: usize) -> usize {
     if wrote < ROOM {
         return wrote;
     }
-    flush(out, wrote);
+    flush(to, out, wrote);
     0
 }
 

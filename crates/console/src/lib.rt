@@ -12,8 +12,8 @@ ghost use Rattle.console.specs.Line.{line_number};
 use crate::shown::say_shown;
 use crate::wrong::say_fault;
 use faults::{Form, fault_at};
-use libc::{STDERR_FILENO, STDIN_FILENO, STDOUT_FILENO};
 use pieces::{fronted, keep};
+use std::io::{Read, Stderr, Stdin, Stdout};
 use stops::{Run, Stop};
 
 // What a program reads, by the word for it.
@@ -77,10 +77,17 @@ pub fn ended(run: Run) -> Progress {
 
 // What follows from why a call stopped: where the piece is used up more is read, for want of room the program goes
 // on, and else the run is over.
-pub fn follow(run: Run, have: usize, why: Stop, text: Text, input: &mut [u8]) -> Progress {
+pub fn follow(
+    rt: HostRuntime,
+    run: Run,
+    have: usize,
+    why: Stop,
+    text: Text,
+    input: &mut [u8],
+) -> Progress {
     match why {
-        Stop::Finished => read_on(run, have, text, input),
-        Stop::Unfinished => read_on(run, have, text, input),
+        Stop::Finished => read_on(rt, run, have, text, input),
+        Stop::Unfinished => read_on(rt, run, have, text, input),
         Stop::NoRoom => going(run, have),
         Stop::Unsound => over(run),
         Stop::BadHeader => over(run),
@@ -90,32 +97,28 @@ pub fn follow(run: Run, have: usize, why: Stop, text: Text, input: &mut [u8]) ->
 }
 
 // What is left of the piece moves to its front, and more of the text is read after it.
-fn read_on(run: Run, have: usize, text: Text, input: &mut [u8]) -> Progress {
+fn read_on(rt: HostRuntime, run: Run, have: usize, text: Text, input: &mut [u8]) -> Progress {
     let rest = keep(input, run.place, have);
     let next = fronted(run);
-    match read_behind(input, rest) {
+    match read_behind(rt.stdin(), input, rest) {
         More::Have(n) => going(next, n),
         More::Ended => over(next),
         More::Failed => {
-            say_unread(text);
+            say_unread(rt.stderr(), text);
             ended(next)
         }
     }
 }
 
 // More of the text is read into the piece, behind so many bytes.
-fn read_behind(input: &mut [u8], rest: usize) -> More {
+fn read_behind(text: Stdin, input: &mut [u8], rest: usize) -> More {
+    let mut text = text;
     let from = within(rest, input);
-    let more = &mut input[from..];
-    let got = libc::read(STDIN_FILENO, more);
-    let n = io::count(got, more);
-    if got < 0 {
-        return More::Failed;
+    match text.read(&mut input[from..]) {
+        Ok(0) => More::Ended,
+        Ok(n) => More::Have(from + n),
+        Err(_) => More::Failed,
     }
-    if n == 0 {
-        return More::Ended;
-    }
-    More::Have(from + n)
 }
 
 // How many bytes of a piece: no more than it has.
@@ -134,49 +137,49 @@ pub fn line_number(run: Run) -> u64
 }
 
 // A number to standard output, and what comes after it. Answers whether they could be written.
-pub fn put_number(n: u64, after: &[u8]) -> bool {
-    let written = io::print_decimal(STDOUT_FILENO, n);
-    let whole = io::write_all(STDOUT_FILENO, after);
+pub fn put_number(out: Stdout, n: u64, after: &[u8]) -> bool {
+    let written = out.print(n).is_ok();
+    let whole = out.write_all(after).is_ok();
     written & whole
 }
 
 // The text's line at which the run stands, and what is wrong with it; the piece has the line's bytes.
-pub fn explain(run: Run, why: Stop, text: Text, piece: &[u8]) {
-    say_line(run);
-    reason(why, text, piece, run.place);
+pub fn explain(err: Stderr, run: Run, why: Stop, text: Text, piece: &[u8]) {
+    say_line(err, run);
+    reason(err, why, text, piece, run.place);
 }
 
-pub fn say_line(run: Run) {
-    say(b"line ");
-    say_number(line_number(run));
-    say(b": ");
+pub fn say_line(err: Stderr, run: Run) {
+    say(err, b"line ");
+    say_number(err, line_number(run));
+    say(err, b": ");
 }
 
-fn reason(why: Stop, text: Text, piece: &[u8], at: usize) {
+fn reason(err: Stderr, why: Stop, text: Text, piece: &[u8], at: usize) {
     match why {
-        Stop::Finished => say(b"finished\n"),
-        Stop::Unsound => say(b"the table is not sound (16)\n"),
-        Stop::BadHeader => refused(b"not a header: ", Form::Header, piece, at, b" (20)\n"),
-        Stop::Malformed => malformed(text, piece, at),
-        Stop::Unfinished => of_text(text, b" ends before the line does (22)\n"),
-        Stop::NoRoom => say(b"no room for the answer (23)\n"),
-        Stop::TooMany => say(b"a line after 1000000 steps (24)\n"),
+        Stop::Finished => say(err, b"finished\n"),
+        Stop::Unsound => say(err, b"the table is not sound (16)\n"),
+        Stop::BadHeader => refused(err, b"not a header: ", Form::Header, piece, at, b" (20)\n"),
+        Stop::Malformed => malformed(err, text, piece, at),
+        Stop::Unfinished => of_text(err, text, b" ends before the line does (22)\n"),
+        Stop::NoRoom => say(err, b"no room for the answer (23)\n"),
+        Stop::TooMany => say(err, b"a line after 1000000 steps (24)\n"),
     }
 }
 
-fn malformed(text: Text, piece: &[u8], at: usize) {
+fn malformed(err: Stderr, text: Text, piece: &[u8], at: usize) {
     match text {
-        Text::Script => refused(b"not a step line: ", Form::Script, piece, at, b" (21)\n"),
-        Text::Log => refused(b"not a log line: ", Form::Log, piece, at, b" (21)\n"),
+        Text::Script => refused(err, b"not a step line: ", Form::Script, piece, at, b" (21)\n"),
+        Text::Log => refused(err, b"not a log line: ", Form::Log, piece, at, b" (21)\n"),
     }
 }
 
 // What is wrong with the line at a place, and the line.
-fn refused(what: &[u8], form: Form, piece: &[u8], at: usize, number: &[u8]) {
-    say(what);
-    say_fault(fault_at(form, piece, at), form, letter_at(piece, at));
-    say_shown(piece, at);
-    say(number);
+fn refused(err: Stderr, what: &[u8], form: Form, piece: &[u8], at: usize, number: &[u8]) {
+    say(err, what);
+    say_fault(err, fault_at(form, piece, at), form, letter_at(piece, at));
+    say_shown(err, piece, at);
+    say(err, number);
 }
 
 // The first byte of the line at a place, if there is one.
@@ -184,26 +187,26 @@ fn letter_at(piece: &[u8], at: usize) -> u8 {
     if at < piece.len() { piece[at] } else { 0 }
 }
 
-fn of_text(text: Text, what: &[u8]) {
+fn of_text(err: Stderr, text: Text, what: &[u8]) {
     match text {
-        Text::Script => say(b"the script"),
-        Text::Log => say(b"the log"),
+        Text::Script => say(err, b"the script"),
+        Text::Log => say(err, b"the log"),
     }
-    say(what);
+    say(err, what);
 }
 
-fn say_unread(text: Text) {
-    of_text(text, b" cannot be read\n");
+fn say_unread(err: Stderr, text: Text) {
+    of_text(err, text, b" cannot be read\n");
 }
 
-pub fn say_unwritten() {
-    say(b"the output cannot be written\n");
+pub fn say_unwritten(err: Stderr) {
+    say(err, b"the output cannot be written\n");
 }
 
-pub fn say(text: &[u8]) {
-    io::write_all(STDERR_FILENO, text);
+pub fn say(err: Stderr, text: &[u8]) {
+    let _ = err.write_all(text);
 }
 
-pub fn say_number(n: u64) {
-    io::print_decimal(STDERR_FILENO, n);
+pub fn say_number(err: Stderr, n: u64) {
+    let _ = err.print(n);
 }

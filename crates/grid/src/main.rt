@@ -11,22 +11,23 @@ mod steps;
 mod two_stage;
 mod unsound;
 
-fn main() {
-    two_stage::states();
-    two_stage::document_run();
-    two_stage::last_cores();
-    two_stage::stretched(32767);
-    two_stage::stretched(32768);
-    unsound::two_stage();
-    two_stage::ranges();
-    dequeueing::states();
-    dropping::dropped_in_a_row();
-    dropping::passed();
-    dropping::last_cores();
-    dropping::stretched(32767);
-    dropping::stretched(32768);
-    dropping::ticket_ended();
-    unsound::dequeueing();
-    unsound::away_as_in_d();
-    dropping::ranges();
+fn main(rt: HostRuntime) {
+    let out = rt.stdout();
+    two_stage::states(out);
+    two_stage::document_run(out);
+    two_stage::last_cores(out);
+    two_stage::stretched(out, 32767);
+    two_stage::stretched(out, 32768);
+    unsound::two_stage(out);
+    two_stage::ranges(out);
+    dequeueing::states(out);
+    dropping::dropped_in_a_row(out);
+    dropping::passed(out);
+    dropping::last_cores(out);
+    dropping::stretched(out, 32767);
+    dropping::stretched(out, 32768);
+    dropping::ticket_ended(out);
+    unsound::dequeueing(out);
+    unsound::away_as_in_d(out);
+    dropping::ranges(out);
 }

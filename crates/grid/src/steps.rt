@@ -2,8 +2,8 @@
 ghost use Rattle.std.specs.Prelude.{◌≤◌};
 
 use block::{Stepped, Table};
-use libc::STDOUT_FILENO;
 use parts::{CORES, Counts, Fill, Grants, Profile};
+use std::io::Stdout;
 use ticket::{CoreNo, Grant, Ticket, UnitNo};
 
 pub(crate) fn counts(profile: Profile, cores: u16, first: u16, second: u16) -> Counts {
@@ -22,11 +22,11 @@ pub(crate) fn build(profile: Profile, cores: u16, first: u16, second: u16, count
 }
 
 // Writes what building answers to counts.
-pub(crate) fn range(profile: Profile, cores: u16, first: u16, second: u16) {
+pub(crate) fn range(out: Stdout, profile: Profile, cores: u16, first: u16, second: u16) {
     let b = building::build(counts(profile, cores, first, second), Ticket(0));
     let a = b.answer;
-    io::print_decimal(STDOUT_FILENO, parts::number(a) as u64);
-    io::write_all(STDOUT_FILENO, b"\n");
+    say_number(out, parts::number(a));
+    say(out, b"\n");
 }
 
 // The core so many before the one past the last that a table can have.
@@ -36,65 +36,73 @@ pub(crate) fn core_before(n: u16) -> CoreNo
     CoreNo(CORES as u16 - n)
 }
 
-pub(crate) fn request(t: Table, k: CoreNo, u: UnitNo) -> Table {
-    shown(t.request(k, u))
+pub(crate) fn request(out: Stdout, t: Table, k: CoreNo, u: UnitNo) -> Table {
+    shown(out, t.request(k, u))
 }
 
-pub(crate) fn nest(t: Table, k: CoreNo, u: UnitNo) -> Table {
-    shown(t.nest(k, u))
+pub(crate) fn nest(out: Stdout, t: Table, k: CoreNo, u: UnitNo) -> Table {
+    shown(out, t.nest(k, u))
 }
 
-pub(crate) fn poll(t: Table, k: CoreNo) -> Table {
-    shown(t.poll(k))
+pub(crate) fn poll(out: Stdout, t: Table, k: CoreNo) -> Table {
+    shown(out, t.poll(k))
 }
 
-pub(crate) fn interrupt(t: Table, k: CoreNo) -> Table {
-    shown(t.interrupt(k))
+pub(crate) fn interrupt(out: Stdout, t: Table, k: CoreNo) -> Table {
+    shown(out, t.interrupt(k))
 }
 
-pub(crate) fn come_back(t: Table, k: CoreNo) -> Table {
-    shown(t.come_back(k))
+pub(crate) fn come_back(out: Stdout, t: Table, k: CoreNo) -> Table {
+    shown(out, t.come_back(k))
 }
 
-pub(crate) fn release(t: Table, k: CoreNo) -> Table {
-    shown(t.release(k))
+pub(crate) fn release(out: Stdout, t: Table, k: CoreNo) -> Table {
+    shown(out, t.release(k))
 }
 
 // Writes what a step shows, and hands back its table.
-fn shown(r: Stepped) -> Table {
+fn shown(out: Stdout, r: Stepped) -> Table {
     let a = r.answer;
     let n = r.ticket;
     let g = r.grants;
-    io::print_decimal(STDOUT_FILENO, parts::number(a) as u64);
-    field(n.0);
-    grants(g);
-    io::write_all(STDOUT_FILENO, b"\n");
+    say_number(out, parts::number(a));
+    field(out, n.0);
+    grants(out, g);
+    say(out, b"\n");
     r.table
 }
 
-fn field(n: u16) {
-    io::write_all(STDOUT_FILENO, b"\t");
-    io::print_decimal(STDOUT_FILENO, n as u64);
+fn field(out: Stdout, n: u16) {
+    say(out, b"\t");
+    say_number(out, n);
 }
 
-fn grants(g: Grants) {
+fn say_number(out: Stdout, n: u16) {
+    let _ = out.print(n);
+}
+
+fn say(out: Stdout, text: &[u8]) {
+    let _ = out.write_all(text);
+}
+
+fn grants(out: Stdout, g: Grants) {
     match g {
-        Grants::None => field(0),
+        Grants::None => field(out, 0),
         Grants::One(a) => {
-            field(1);
-            grant(a);
+            field(out, 1);
+            grant(out, a);
         }
         Grants::Two(a, b) => {
-            field(2);
-            grant(a);
-            grant(b);
+            field(out, 2);
+            grant(out, a);
+            grant(out, b);
         }
     }
 }
 
-fn grant(g: Grant) {
+fn grant(out: Stdout, g: Grant) {
     let u = g.unit;
     let k = g.core;
-    field(u.0);
-    field(k.0);
+    field(out, u.0);
+    field(out, k.0);
 }

@@ -4,41 +4,42 @@ use crate::steps::{come_back, counts, interrupt, nest, poll, release, request};
 use crate::two_stage::{begin, unpolled, waiting};
 use block::Table;
 use parts::{Profile, Register, State, blank, core, next_in_line, showing};
+use std::io::Stdout;
 use ticket::{CoreNo, Ticket, UnitNo};
 
 // In T: a blank register shows a ticket, and next in line is nobody's ticket, nobody though core 0 waits, and the core that has the flag.
-pub(crate) fn two_stage() {
-    refused(ticket_in_blank(), UnitNo(2));
-    refused(next_in(begin(), 0, 0, true, false), UnitNo(2));
-    refused(next_in(waiting(), 0, 0, false, true), UnitNo(2));
-    refused(next_in(unpolled(), 65534, 0, true, true), UnitNo(2));
+pub(crate) fn two_stage(out: Stdout) {
+    refused(out, ticket_in_blank(), UnitNo(2));
+    refused(out, next_in(begin(), 0, 0, true, false), UnitNo(2));
+    refused(out, next_in(waiting(out), 0, 0, false, true), UnitNo(2));
+    refused(out, next_in(unpolled(out), 65534, 0, true, true), UnitNo(2));
 }
 
 // In D: core 2 is next in line with ticket 0, though core 0 is older and away in line; an away core has the flag, or no register; a
 // dropped core has a ticket, which it also carries, or is away as in T; and the table has a second-class unit.
-pub(crate) fn dequeueing() {
-    refused(next_in(away_before_another(), 0, 2, true, true), UnitNo(1));
-    refused(flag_moved(), UnitNo(1));
-    refused(taken_out(), UnitNo(1));
-    refused(ticket_kept(State::Dropped), UnitNo(1));
-    refused(ticket_kept(State::Away), UnitNo(1));
-    refused(second_class(), UnitNo(1));
+pub(crate) fn dequeueing(out: Stdout) {
+    refused(out, next_in(away_before_another(out), 0, 2, true, true), UnitNo(1));
+    refused(out, flag_moved(out), UnitNo(1));
+    refused(out, taken_out(out), UnitNo(1));
+    refused(out, ticket_kept(out, State::Dropped), UnitNo(1));
+    refused(out, ticket_kept(out, State::Away), UnitNo(1));
+    refused(out, second_class(), UnitNo(1));
 }
 
 // In T: core 0 is away as in D.
-pub(crate) fn away_as_in_d() {
-    refused(in_state(begin(), 0, State::Marked), UnitNo(2));
-    refused(in_state(begin(), 0, State::Dropped), UnitNo(2));
+pub(crate) fn away_as_in_d(out: Stdout) {
+    refused(out, in_state(begin(), 0, State::Marked), UnitNo(2));
+    refused(out, in_state(begin(), 0, State::Dropped), UnitNo(2));
 }
 
 // Each letter for core 0; it asks for this second unit.
-fn refused(t: Table, second: UnitNo) {
-    request(t, CoreNo(0), UnitNo(0));
-    nest(t, CoreNo(0), second);
-    poll(t, CoreNo(0));
-    interrupt(t, CoreNo(0));
-    come_back(t, CoreNo(0));
-    release(t, CoreNo(0));
+fn refused(out: Stdout, t: Table, second: UnitNo) {
+    request(out, t, CoreNo(0), UnitNo(0));
+    nest(out, t, CoreNo(0), second);
+    poll(out, t, CoreNo(0));
+    interrupt(out, t, CoreNo(0));
+    come_back(out, t, CoreNo(0));
+    release(out, t, CoreNo(0));
 }
 
 fn ticket_in_blank() -> Table {
@@ -63,8 +64,8 @@ fn next_in(table: Table, ticket: u16, core: u16, valid: bool, held: bool) -> Tab
 }
 
 // Core 0, away, has core 1's flag, and core 1 is next in line.
-fn flag_moved() -> Table {
-    let mut t = away_in_line();
+fn flag_moved(out: Stdout) -> Table {
+    let mut t = away_in_line(out);
     let mut x = t.units[0];
     x.registers[0] = Register {
         ticket: Ticket(65535),
@@ -81,8 +82,8 @@ fn flag_moved() -> Table {
 }
 
 // Core 0, away in line, has no register, and nobody is next in line.
-fn taken_out() -> Table {
-    let mut t = away_in_line();
+fn taken_out(out: Stdout) -> Table {
+    let mut t = away_in_line(out);
     let mut x = t.units[0];
     x.registers[0] = blank();
     t.units[0] = x;
@@ -90,8 +91,8 @@ fn taken_out() -> Table {
 }
 
 // Core 0, dropped, has ticket 65,533 in this state.
-fn ticket_kept(state: State) -> Table {
-    in_state(dropped_with_flag(), 65533, state)
+fn ticket_kept(out: Stdout, state: State) -> Table {
+    in_state(dropped_with_flag(out), 65533, state)
 }
 
 // The table with core 0 in a state, with this ticket, which it also carries, and unit 0.
