@@ -3,7 +3,6 @@
 use Rattle.std.specs.Prelude.{ℕ, cond, List, eqb, get_or}
 use Rattle.ticket.specs.Kinds.{ticket}
 use Rattle.parts.specs.Range.{in_range}
-use Rattle.parts.specs.declared.kinds.Counts.{Counts}
 use Rattle.parts.specs.declared.kinds.Fill.TheVariants.{Blank}
 use Rattle.parts.specs.declared.kinds.Profile.{Profile}
 use Rattle.parts.specs.declared.kinds.Profile.TheVariants.{T, D}
