@@ -1,5 +1,5 @@
 -- The last of a unit's clauses compares what it shows with what its registers ask for, field by field.
-use mathlib.Core.Bool.{Bool, ◌&&◌}
+use mathlib.Core.Bool.{◌&&◌}
 use Prim.Native.Nat.{ℕ}
 use lib.ListN.{get_or}
 use Rattle.parts.specs.Fold.{every}

@@ -22,6 +22,7 @@ pub fn cores_sound(counts: Counts, counter: Ticket, all: [Core; CORES]) -> bool
 }
 
 // The clauses of core k.
+#[tactic(auto, unfolding(crate::specs::Sound::core_sound))]
 fn core_sound(counts: Counts, counter: Ticket, all: [Core; CORES], k: CoreNo) -> bool
     requires { k.0 < cores }
     ensures { result ≡ core_sound counts counter all k.0 }

@@ -11,6 +11,7 @@ use settling::shows_next;
 use ticket::{Ticket, UnitNo};
 
 // The clauses of unit u, which is x.
+#[tactic(auto, unfolding(crate::specs::Agreement::unit_sound_lem))]
 pub fn unit_sound(all: [Core; CORES], u: UnitNo, x: LockUnit) -> bool
     ensures { result ≡ unit_sound_lem all u.0 x }
 {

@@ -1,0 +1,27 @@
+use borrow.Author.Rules.{rules}
+use Prim.Native.Nat.{ℕ, ◌<◌, ◌+◌}
+use mathlib.Core.Bool.{Bool}
+use mathlib.Core.Path.{◌≡◌}
+use native.Mathlib.Omega.{arith}
+use mir.Syntax.{w64}
+use mir.Val.{Fits}
+use Rattle.parts.specs.Fold.{count, one}
+use Rattle.parts.specs.Parts.{cores}
+use Rattle.parts.proofs.Folds.{none, finished}
+use Rattle.parts.proofs.Loops.{count_more, count_most, one_most}
+use Rattle.soundness.proofs.units.flags.Goals as goal
+
+fits : (p : ℕ → Bool) (k n m : ℕ) (b : Bool) → n ≡ count p k → m ≡ one b → k < cores → Fits w64 (n + m)
+fits p k n m b so last h = let a = count_most p k in let l = one_most b in omega arith
+
+pub loop-k-init : goal.loop-k-init
+loop-k-init c = search (none, rules)
+
+pub loop-k-preserved : goal.loop-k-preserved
+loop-k-preserved c = search (count_more, rules)
+
+pub returns : goal.returns
+returns c = search (finished, rules)
+
+pub overflow_add-n : goal.overflow_add-n
+overflow_add-n c = search fits
