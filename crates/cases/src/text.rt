@@ -1,4 +1,5 @@
 // Answers as text, gathered in the output and written when much of it stands there.
+use itoa::Buffer;
 use std::io::Stdout;
 
 // The room that an answer's fields never use up.
@@ -43,10 +44,9 @@ pub(crate) fn field(out: &mut [u8], at: usize, n: u32) -> usize {
 }
 
 pub(crate) fn long_field(out: &mut [u8], at: usize, n: u64) -> usize {
-    let mut digits = [0u8; 20];
-    let k = io::decimal(n, &mut digits);
+    let mut digits = Buffer::new();
     let to = put(out, at, b"\t");
-    put(out, to, &digits[..k])
+    put(out, to, digits.format(n).as_bytes())
 }
 
 pub(crate) fn bit(b: bool) -> u32 {
