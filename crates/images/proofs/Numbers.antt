@@ -1,5 +1,4 @@
 -- The number that the answer carries, by the tests it comes from: 20 for counts out of range, then 30.
-use Prim.Native.Nat.{ℕ}
 use mathlib.Core.Bool.{Bool, true, false, cond}
 use mathlib.Core.Path.{◌≡◌, refl}
 use Rattle.parts.specs.Range.{in_range}

@@ -1,0 +1,23 @@
+-- After u turns, the first u units are read, and ok says whether their next words are those of their
+-- registers.
+use Prim.Native.Nat.{ℕ, ◌-◌, ◌≤◌}
+use mathlib.Core.List.{List}
+use mathlib.Core.Path.{◌≡◌}
+use lib.ListN.{set}
+use Rattle.parts.specs.Fold.{up_to, every}
+use Rattle.parts.specs.declared.kinds.Counts.{Counts}
+use Rattle.parts.specs.declared.kinds.LockUnit.{LockUnit}
+use Rattle.images.specs.Image.{empty_units_lem, unit_of, next_agrees}
+use Rattle.images.proofs.image.read_units.Given as goal
+
+abbrev pub place : Counts → List ℕ → ℕ → List LockUnit → List LockUnit
+place c ws u xs = set xs u (unit_of c ws u)
+
+abbrev pub first : Counts → List ℕ → ℕ → List LockUnit
+first c ws u = up_to (place c ws) u empty_units_lem
+
+abbrev pub invariant-loop-u : goal.invariant-loop-u
+invariant-loop-u l = (l.u ≤ l.all) × (l.xs ≡ first l.c l.words l.u) × (l.ok ≡ every (next_agrees l.c l.words) l.u)
+
+abbrev pub decreases-loop-u : goal.decreases-loop-u
+decreases-loop-u l = l.all - l.u
