@@ -12,8 +12,8 @@ use Rattle.parts.proofs.made.registered.Reads as registered
 use Rattle.parts.proofs.made.core.Reads as core
 use Rattle.parts.proofs.made.dropped.Reads as dropped
 use Rattle.parts.proofs.answer.whose.Reads as whose
-use Rattle.parts.proofs.state.is_idle.Reads as is_idle_lem_lem
-use Rattle.parts.proofs.state.two_stage.Reads as two_stage_lem_lem
+use Rattle.parts.proofs.state.is_idle.Reads as is-idle
+use Rattle.parts.proofs.state.two_stage.Reads as two-stage
 use Rattle.parts.proofs.state.waits.Reads as waits
 use Rattle.parts.proofs.state.is_away.Reads as is-away
 use Rattle.parts.proofs.state.is_marked.Reads as is-marked
@@ -40,10 +40,10 @@ blank_determined κs a x y s t p q = p ∙ sym q
 pub idle_determined : Determines idle.Post
 idle_determined κs a x y s t p q = p ∙ sym q
 
-pub is_idle_determined : Determines is_idle_lem_lem.Post
+pub is_idle_determined : Determines is-idle.Post
 is_idle_determined κs a x y s t p q = p ∙ sym q
 
-pub two_stage_determined : Determines two_stage_lem_lem.Post
+pub two_stage_determined : Determines two-stage.Post
 two_stage_determined κs a x y s t p q = p ∙ sym q
 
 pub waits_determined : Determines waits.Post

@@ -82,13 +82,13 @@ pub struct Core {
 // By which rules a block works.
 #[derive(Clone, Copy)]
 pub enum Profile {
-    // The two_stage_lem_lem algorithm with inheritance.
+    // The two-stage algorithm with inheritance.
     T,
     // The dequeueing method.
     D,
 }
 
-// How many cores, first_class units and second-class units a table has, and its profile: what its header gives and
+// How many cores, first-class units and second-class units a table has, and its profile: what its header gives and
 // no step changes.
 #[derive(Clone, Copy)]
 pub struct Counts {

@@ -5,7 +5,7 @@ ghost use Rattle.parts.specs.Range.{in_range};
 use crate::kinds::{CORES, Counts, PER_CLASS};
 use crate::profile::dequeues;
 
-// Whether counts are in range: a core at least, a first_class unit at least, none of the three above its limit,
+// Whether counts are in range: a core at least, a first-class unit at least, none of the three above its limit,
 // and no second-class unit in D.
 pub fn in_range(c: Counts) -> bool
     ensures { result ≡ in_range c }
