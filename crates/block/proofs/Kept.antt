@@ -242,7 +242,7 @@ pub record WaitsAt (d : Core) (u : ℕ) (n : Ticket) : Type 0 where
   pub first : d.first.0 ≡ u
   pub own : d.own.0 ≡ n.0
 
--- so does whoever is in line at a first_class unit
+-- so does whoever is in line at a first-class unit
 pub in_line_waits :
     (t : Table) (d : Core) (u : ℕ) (r : Register) →
     u < t.counts.first →

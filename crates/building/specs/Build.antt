@@ -1,5 +1,5 @@
 -- "Fresh: every core idle, no register valid, no flag set. Building with counts outside these ranges is refused with 20 and yields
--- the fresh table of one core, one first_class unit, no second-class unit, counter 0."
+-- the fresh table of one core, one first-class unit, no second-class unit, counter 0."
 use Rattle.std.specs.Prelude.{cond, replicate}
 use Rattle.ticket.specs.Kinds.{ticket}
 use Rattle.ticket.specs.declared.kinds.Ticket.{Ticket}

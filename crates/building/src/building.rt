@@ -27,7 +27,7 @@ fn fresh(counts: Counts, counter: Ticket) -> Table
     }
 }
 
-// The fresh table of these counts. Out of range: 20, and the fresh table of one core, one first_class
+// The fresh table of these counts. Out of range: 20, and the fresh table of one core, one first-class
 // unit, no second-class unit and counter 0.
 pub fn build(counts: Counts, counter: Ticket) -> Built
     ensures { result ≡ build counts counter }

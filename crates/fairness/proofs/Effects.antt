@@ -1,6 +1,6 @@
 -- What an accepted step does before settling: it changes its core and that core's registers and nothing else. Where it skips nobody (Skipping),
 -- settling changes no core. A ticket begins only by a request or a coming back of a dropped core, and ends only by release and, in D, by an interrupt;
--- a flag at a first_class unit goes out only by release or interrupt. A refused step does nothing.
+-- a flag at a first-class unit goes out only by release or interrupt. A refused step does nothing.
 use Prim.Native.Nat.{ℕ, ◌<◌}
 use mathlib.Core.Bool.{Bool, true, false, cond, ◌&&◌, not}
 use mathlib.Core.List.{List, []}
@@ -261,7 +261,7 @@ pub interrupt_done : (t : Table) (k : CoreNo) → (effect_on t (I k)).answer ≡
 interrupt_done t k = interrupt_cases t k (λ (e : Effect). e.answer ≡ Done) (λ p. refl) (λ p f. refl) (λ p f. refl)
 
 module _ (t : Table) (g : Good t) where
-  -- Flags at a first_class unit
+  -- Flags at a first-class unit
 
   module _ (u : ℕ) (class : u < t.counts.first) where
     abbrev place : u < units

@@ -61,7 +61,7 @@ number_earlier i h = go (ltb i h) refl (ltb h i)
     go false x true e = absurd (clash (ap reads_older_lem e) refl)
     go false x false e = absurd (clash (ap reads_older_lem e) refl)
 
--- An accepted step that skips nobody, at a first_class unit
+-- An accepted step that skips nobody, at a first-class unit
 
 module _ (c : ℕ) (p : Place) (n : Numbered c p) (z : Step) (a : Accepted p.table z) (u : ℕ) (class : u < p.table.counts.first) where
   abbrev t : Table

@@ -124,7 +124,7 @@ module _ (t : Table) (g : Good t) where
       let i = w.0 in
       (i, other i w.1 c.second.0 h names.low w.2 (flag_goes c.second.0 i h w.1 w.2))
     where
-      -- a core with a second unit holds a first_class one, so a second-class unit whose flag it has is its second
+      -- a core with a second unit holds a first-class one, so a second-class unit whose flag it has is its second
       nowhere :
           (i : ℕ) →
           i < cores →

@@ -1,4 +1,4 @@
--- "While a core that entered a first_class unit is neither granted there nor interrupted": the stretch that begins with the accepted R
+-- "While a core that entered a first-class unit is neither granted there nor interrupted": the stretch that begins with the accepted R
 -- or C, and what is counted in it. In D too "I ends a wait and C opens one", where the core stayed registered as well.
 use Rattle.std.specs.Prelude.{ℕ, ◌+◌, Bool, true, false, ◌&&◌, ◌||◌, not, List, [], ◌∷◌, eqb, ltb}
 use Rattle.ticket.specs.declared.kinds.Grant.{Grant}
@@ -32,7 +32,7 @@ abbrev pub enters_at : Table → Step → ℕ → Bool
 enters_at t s u =
     elim s [ R k v ↦ eqb v.0 u | N k v ↦ false | P k ↦ false | I k ↦ false | C k ↦ eqb (core_of t k.0).first.0 u | L k ↦ false ]
 
--- core k enters unit u, which is first_class, and is not granted it at once
+-- core k enters unit u, which is first-class, and is not granted it at once
 abbrev pub enters : Place → Step → ℕ → ℕ → Bool
 enters p s k u =
     done p.table s && eqb (whose s).0 k && enters_at p.table s u && ltb u p.table.counts.first && not (gives u k (grants p s))

@@ -70,7 +70,7 @@ look some v b =
 
 -- The numbers of a line, of which field k, counted from 1 with the letter, has the value v; its letter has n
 
--- cores from 1 to `cores`, first_class units from 1 to `per_class`, second-class units from 0, and as many as the profile can have
+-- cores from 1 to `cores`, first-class units from 1 to `per_class`, second-class units from 0, and as many as the profile can have
 abbrev pub counted : Profile → ℕ → ℕ → Fault
 counted p k v =
     cond (eqb k 2 && not (leb 1 v && leb v cores)) (Cores v)

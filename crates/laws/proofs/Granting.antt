@@ -275,7 +275,7 @@ module _ (t : Table) (u : ℕ) (h : u < units) where
       ap (λ (z : Settling). z.grants) (settle_two t u h (present u h) w l m (present w m) quiet) ∙
       ap (λ (x : LockUnit). won u (winner (unit_of t u)) ++ won w (winner x)) (settle_at_unit t u w (λ e. omega arith))
 
--- the first of two grants is of a first_class unit, the second of a second-class one
+-- the first of two grants is of a first-class unit, the second of a second-class one
 pub record Classes (t : Table) (g h : Grant) : Type 0 where
   pub first : g.unit.0 < t.counts.first
   pub low : t.counts.first ≤ h.unit.0

@@ -30,7 +30,7 @@ picking_ordered t u i k ok fits place h l d v w =
     (shown_recent t a u place k l w)
     (shown_apart t a u place i k h l d v w)
 
--- a register in line at a first_class unit shows the own ticket of a live core, which is another than the one that holds the unit
+-- a register in line at a first-class unit shows the own ticket of a live core, which is another than the one that holds the unit
 pub inheriting_ordered : InheritingOrdered
 inheriting_ordered t i k ok fits h l two v clear =
     let s = parts t ok in

@@ -38,7 +38,7 @@ pub record GrantsOf (t : Table) (s : Step) : Type 0 where
   pub whole : verdict t s ≡ Allowed → listed (step t s).grants ≡ (settle (moves t s)).grants
   -- "by rising unit"
   pub rise : Rising (listed (step t s).grants)
-  -- "two are one first_class and one second-class unit"
+  -- "two are one first-class and one second-class unit"
   pub classes :
       (g h : Grant) →
       (step t s).grants ≡ Two g h → (g.unit.0 < t.counts.first) × (t.counts.first ≤ h.unit.0) × (h.unit.0 < unit_count t)

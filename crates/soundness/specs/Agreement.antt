@@ -22,8 +22,8 @@ shows r n held = r.valid && eqb r.ticket.0 n.0 && (r.flag || not held)
 abbrev pub flagless : State → Register → Bool
 flagless z r = not (is_marked z) || not r.flag
 
--- "registers and flags agree with every core's state (idle and away stand nowhere; holding means flag set)"; "first_unit registers
--- show own tickets, second_unit registers carried ones". In D a core that is marked away stands where it stood.
+-- "registers and flags agree with every core's state (idle and away stand nowhere; holding means flag set)"; "first-unit registers
+-- show own tickets, second-unit registers carried ones". In D a core that is marked away stands where it stood.
 abbrev pub agrees : Core → ℕ → Register → Bool
 agrees c u r =
     cond (stands c.state && eqb u c.first.0) (flagless c.state r && shows r c.own (holds_first c.state))
