@@ -11,14 +11,14 @@ use headers::{HeaderLine, header_line_at};
 use lines::{StepLine, step_line_at};
 
 // The lent script, and the place where the next line starts.
-#[derive(Drop)]
+#[derive(Clone, Copy)]
 pub struct ScriptReader<'a> {
     pub script: &'a [u8],
     pub place: usize,
 }
 
 // What a reader found at its place, and the reader after it.
-#[derive(Drop)]
+#[derive(Clone, Copy)]
 pub struct ReadOn<'a> {
     pub line: StepLine,
     pub reader: ScriptReader<'a>,
