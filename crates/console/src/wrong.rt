@@ -91,7 +91,8 @@ fn say_number_field(err: Stderr, k: usize, what: &[u8]) {
 // A header of profile D has none.
 fn say_second(err: Stderr, n: u16, letter: u8) {
     if letter == b'D' {
-        return say_count(err
+        return say_count(
+            err,
             n,
             b" second-class units, and in a D header there must be ",
             0,
