@@ -1,7 +1,7 @@
 -- A plan, from what its calls give: the verdict decides, and then what the core does. Whoever a plan grants is one of the table's.
 use Prim.Native.Nat.{◌<◌}
 use mathlib.Core.Bool.{Bool, true, false, cond}
-use mathlib.Core.List.{List, ◌++◌}
+use mathlib.Core.List.{◌++◌}
 use mathlib.Core.Path.{◌≡◌, sym, ◌∙◌, ap}
 use Rattle.ticket.specs.Kinds.{ticket}
 use Rattle.ticket.specs.Order.{compare}

@@ -149,6 +149,7 @@ fn effect_of(s: Step, counts: Counts, counter: Ticket, c: Core, x: Part, y: Part
 }
 
 // Seam: the plan of a step that names core c and reads x and y of the units at its places.
+#[tactic(auto, unfolding(crate::specs::Plan::plan_step))]
 pub fn plan_step(
     s: Step,
     counts: Counts,
