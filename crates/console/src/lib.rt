@@ -6,7 +6,7 @@ mod shown;
 mod wrong;
 
 ghost use Rattle.std.specs.Prelude.{◌≡◌};
-ghost use Rattle.io.specs.Counts.{IsPrefixLen};
+ghost use Rattle.console.specs.Counts.{IsPrefixLen};
 ghost use Rattle.console.specs.Line.{line_number};
 
 use crate::shown::say_shown;
