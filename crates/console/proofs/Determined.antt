@@ -1,5 +1,5 @@
 -- The contract of `line_number` determines its answer: it is an equation with a definition.
-use mathlib.Core.Path.{sym, ◌∙◌}
+use Rattle.std.proofs.Common.{sym, ◌∙◌}
 use Rattle.ticket.specs.Determined.{Determines}
 use Rattle.console.proofs.line_number.Reads as line-number
 

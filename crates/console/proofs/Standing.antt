@@ -1,7 +1,5 @@
 -- A run after its header stands as many lines behind the header's as it has steps, and one.
-use Prim.Native.Nat.{ℕ, ◌+◌}
-use mathlib.Core.Bool.{true}
-use mathlib.Core.Path.{◌≡◌}
+use Rattle.std.proofs.Common.{◌+◌, ◌≡◌, true}
 use Rattle.stops.specs.declared.run.Run.{Run}
 use Rattle.console.specs.Line.{line_number}
 
