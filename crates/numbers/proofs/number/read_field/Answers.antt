@@ -1,8 +1,4 @@
-use Prim.Native.Nat.{◌-◌}
-use mathlib.Core.Path.{◌≡◌}
-use lib.ListN.{length, drop}
 use borrow.Author.Rules.{rules}
-use Rattle.numbers.specs.Number.{field, scan}
 use Rattle.numbers.proofs.Turns.{digit, at_tab_lem, at_other, at_digit, at_last}
 use Rattle.numbers.proofs.number.read_field.Goals as goal
 
