@@ -169,7 +169,14 @@ fn reason(err: Stderr, why: Stop, text: Text, piece: &[u8], at: usize) {
 
 fn malformed(err: Stderr, text: Text, piece: &[u8], at: usize) {
     match text {
-        Text::Script => refused(err, b"not a step line: ", Form::Script, piece, at, b" (21)\n"),
+        Text::Script => refused(
+            err,
+            b"not a step line: ",
+            Form::Script,
+            piece,
+            at,
+            b" (21)\n",
+        ),
         Text::Log => refused(err, b"not a log line: ", Form::Log, piece, at, b" (21)\n"),
     }
 }

@@ -17,7 +17,12 @@ pub(crate) fn say_fault(err: Stderr, f: Fault, form: Form, letter: u8) {
         Fault::TooMany => say_fields(err, b"too many fields, ", form, letter),
         Fault::Field(k, w) => say_field(err, k, w),
         Fault::Cores(n) => say_count(err, n, b" cores, and there may be 1 to ", CORES),
-        Fault::First(n) => say_count(err, n, b" first-class units, and there may be 1 to ", PER_CLASS),
+        Fault::First(n) => say_count(
+            err,
+            n,
+            b" first-class units, and there may be 1 to ",
+            PER_CLASS,
+        ),
         Fault::Second(n) => say_second(err, n, letter),
     }
 }
@@ -98,7 +103,12 @@ fn say_second(err: Stderr, n: u16, letter: u8) {
             0,
         );
     }
-    say_count(err, n, b" second-class units, and there may be 0 to ", PER_CLASS);
+    say_count(
+        err,
+        n,
+        b" second-class units, and there may be 0 to ",
+        PER_CLASS,
+    );
 }
 
 fn say_count(err: Stderr, n: u16, what: &[u8], most: usize) {

@@ -18,7 +18,11 @@ pub(crate) fn two_stage(out: Stdout) {
 // In D: core 2 is next in line with ticket 0, though core 0 is older and away in line; an away core has the flag, or no register; a
 // dropped core has a ticket, which it also carries, or is away as in T; and the table has a second-class unit.
 pub(crate) fn dequeueing(out: Stdout) {
-    refused(out, next_in(away_before_another(out), 0, 2, true, true), UnitNo(1));
+    refused(
+        out,
+        next_in(away_before_another(out), 0, 2, true, true),
+        UnitNo(1),
+    );
     refused(out, flag_moved(out), UnitNo(1));
     refused(out, taken_out(out), UnitNo(1));
     refused(out, ticket_kept(out, State::Dropped), UnitNo(1));
