@@ -1,8 +1,8 @@
 -- Reading a table after a change: at the changed core or register the new one stands, and everywhere else what stood there.
 use Prim.Native.Nat.{ℕ, ◌<◌}
 use mathlib.Core.Logic.{◌⊎◌, inl, inr, ◌≢◌}
-use mathlib.Core.Path.{◌≡◌, refl, ◌∙◌, ap}
-use lib.ListN.{length, set, length-set}
+use mathlib.Core.Path.{◌≡◌, ◌∙◌, ap}
+use lib.ListN.{length, length-set}
 use lib.Seq.{get_or-set_same, get_or-set_other}
 use Rattle.ticket.specs.declared.kinds.Ticket.{Ticket}
 use Rattle.parts.specs.Parts.{cores, units, blank, idle, absent_unit, register_in, registered}

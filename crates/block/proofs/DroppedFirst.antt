@@ -1,6 +1,6 @@
 -- Dropping first. A core that gives up its flag does not stand in line, so that whoever is dropped is the same before and after it leaves; and of what the unit shows in
 -- between nothing is left when it has settled. So the step on a table of which those in front are dropped is the step.
-use Prim.Native.Nat.{ℕ, ◌+◌, ◌<◌, ◌≤◌}
+use Prim.Native.Nat.{ℕ, ◌<◌, ◌≤◌}
 use mathlib.Core.Bool.{Bool, true, false, cond, ◌&&◌, not}
 use mathlib.Core.List.{List, [], ◌++◌}
 use mathlib.Core.Logic.{◌≢◌}

@@ -10,9 +10,7 @@ use Rattle.parts.specs.Answer.{whose}
 use Rattle.parts.specs.Parts.{cores, units, blank, absent_unit, register_in, dropped as gone}
 use Rattle.parts.specs.State.{is_away}
 use Rattle.parts.specs.declared.answer.Step.{Step}
-use Rattle.parts.specs.declared.kinds.Core.{Core}
 use Rattle.parts.specs.declared.kinds.LockUnit.{LockUnit}
-use Rattle.parts.specs.declared.kinds.Register.{Register}
 use Rattle.parts.specs.declared.kinds.State.TheVariants.{Marked}
 use Rattle.settling.specs.Shown.{shown}
 use Rattle.settling.specs.Dropping.{dropping, drop_away}

@@ -1,20 +1,19 @@
 -- The units of a table as a run holds them, a row of registers for each unit and what each shows: a changed register of a row is the changed
 -- register of its unit, and the flag that is passed on and the next in line that is found by the pairs are those of the unit.
-use Prim.Native.Nat.{ℕ, zero, suc, ◌+◌, ◌≤◌, ◌<◌}
+use Prim.Native.Nat.{ℕ, zero, suc, ◌<◌}
 use mathlib.Core.Bool.{true, false}
-use mathlib.Core.List.{List, [], ◌∷◌, ◌++◌, map}
+use mathlib.Core.List.{List, [], ◌∷◌, map}
 use mathlib.Core.Path.{◌≡◌, refl, sym, ◌∙◌, ap, ap₂}
-use native.Mathlib.Numerals.{add-one}
 use native.Mathlib.Omega.{arith}
-use lib.ListN.{length, get_or, set, take, length-set, length-map, get_or-map}
+use lib.ListN.{length, get_or, set, length-set, length-map, get_or-map}
 use lib.Seq.{get_or-set_same, set-set}
 use Rattle.ticket.specs.declared.kinds.CoreNo.{CoreNo}
 use Rattle.ticket.specs.declared.kinds.UnitNo.{UnitNo}
-use Rattle.parts.specs.Parts.{cores, units, blank, nobody, absent_unit, registered, showing}
+use Rattle.parts.specs.Parts.{units, blank, nobody, absent_unit, registered, showing}
 use Rattle.parts.specs.declared.kinds.Register.{Register}
 use Rattle.parts.specs.declared.kinds.Next.{Next}
 use Rattle.parts.specs.declared.kinds.LockUnit.{LockUnit}
-use Rattle.settling.specs.Settle.{passed_to_lem, with_flag, given, repicked, changed}
+use Rattle.settling.specs.Settle.{passed_to_lem, with_flag, given, repicked}
 use Rattle.settling.specs.declared.settle.Change.{Change}
 use Rattle.settling.proofs.NextInLine.{passed_given}
 use Rattle.block.specs.Apart.{unit_with, registers_in, next_in, rows_of, nexts_of, together, gathered}
