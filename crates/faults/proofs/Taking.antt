@@ -17,34 +17,7 @@ use Rattle.lines.specs.Reading.{ending}
 use Rattle.lines.specs.declared.reading.Ending.{Ending}
 use Rattle.lines.specs.declared.reading.Ending.TheVariants.{At, Long, Short}
 use Rattle.lines.proofs.Turns.{found}
-use Rattle.faults.specs.Fault.{
-  wrong,
-  first,
-  step_numbers,
-  numbers,
-  kind_of,
-  digit,
-  other,
-  at_tab,
-  look,
-  counted,
-  count,
-  too_many,
-  tabbed,
-  ended,
-  upto,
-  next_field,
-  next_by,
-  next,
-  numbers_from_lem,
-  after_letter,
-  from_left,
-  returned,
-  line_fault,
-  most,
-  too_long,
-  fault_at,
-}
+use Rattle.faults.specs.Fault.{wrong, first, numbers, kind_of, digit, other, at_tab, look, counted, count, too_many, tabbed, ended, upto, next_field, next_by, next, numbers_from_lem, after_letter, from_left, returned, line_fault, most, too_long, fault_at}
 use Rattle.faults.specs.declared.fault.Form.{Form}
 use Rattle.faults.specs.declared.fault.Form.TheVariants.{Script, Log, Header}
 use Rattle.faults.specs.declared.fault.Kind.{Kind}

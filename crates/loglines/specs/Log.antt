@@ -1,6 +1,6 @@
 -- A line of a captured log: "the script line's fields, then answer, ticket, number of grants, and unit and core of each grant, as the part showed
 -- them". "No log line passes 62 bytes with its end." "Lines and fields count from 1; the letter is field 1."
-use Rattle.std.specs.Prelude.{ℕ, zero, suc, ◌+◌, ◌-◌, cond, List, [], ◌∷◌, ◌++◌, ◌⊎◌, eqb, leb, length, get_or}
+use Rattle.std.specs.Prelude.{ℕ, zero, suc, ◌+◌, ◌-◌, cond, List, [], ◌∷◌, ◌⊎◌, eqb, leb, length, get_or}
 use Rattle.std.proofs.Common.{inl, inr, ⊎_elim}
 use Rattle.ticket.specs.declared.kinds.Ticket.{Ticket}
 use Rattle.parts.specs.Answer.{number_of}

@@ -1,7 +1,7 @@
 -- Detail: a line by its parts, as the code reads it: the step part, and the numbers behind it from a place on. That this is the line as
 -- it is read are the laws of proofs/Parts.
 use Rattle.std.specs.Prelude.{ℕ, ◌+◌, Bool, true, false, cond, List, [], ◌⊎◌, eqb, length, get_or}
-use Rattle.std.proofs.Common.{inl, inr, ⊎_elim}
+use Rattle.std.proofs.Common.{inl, ⊎_elim}
 use Rattle.numbers.specs.Bytes.{tab}
 use Rattle.numbers.specs.Number.{field}
 use Rattle.numbers.specs.declared.number.Field.{Field}

@@ -1,8 +1,5 @@
-use mathlib.Core.Path.{◌≡◌}
 use borrow.Author.Rules.{rules}
-use Rattle.loglines.specs.Log.{numbers_from_lem}
-use Rattle.loglines.specs.Parts.{rest_from, are_numbers}
-use Rattle.loglines.proofs.Rest.{from_none, from_some, bad_next, last_next, then_next, none_left}
+use Rattle.loglines.proofs.Rest.{bad_next, last_next, then_next, none_left}
 use Rattle.loglines.proofs.line.all_numbers.Goals as goal
 
 pub returns-in-Bad : goal.returns-in-Bad

@@ -1,9 +1,7 @@
 -- What is still to be answered, from byte i on with as many fields left, is the answer.
 use mathlib.Core.Path.{◌≡◌}
-use borrow.Author.Rules.{rules}
 use Rattle.loglines.specs.Log.{numbers_from_lem}
 use Rattle.loglines.specs.Parts.{rest_from, are_numbers}
-use Rattle.loglines.proofs.Rest.{from_none, from_some, bad_next, last_next, then_next, none_left}
 use Rattle.loglines.proofs.line.all_numbers.Given as goal
 
 abbrev pub invariant-loop-left : goal.invariant-loop-left

@@ -1,11 +1,5 @@
-use Prim.Native.Nat.{ℕ, ◌+◌, ◌-◌, ◌≤◌}
-use native.Mathlib.Omega.{arith}
-use lib.ListN.{length}
 use borrow.Author.Rules.{rules}
-use Rattle.loglines.specs.Log.{given_by}
-use Rattle.loglines.specs.Parts.{judged_in}
-use Rattle.loglines.proofs.Offs.{given_most}
-use Rattle.loglines.proofs.Rest.{Passed, none_passed, at_end, at_bad, last_off, last_same, then_off, then_same}
+use Rattle.loglines.proofs.Rest.{at_end, at_bad, last_off, last_same, then_off, then_same}
 use Rattle.loglines.proofs.line.compared.Goals as goal
 
 pub returns-then-i-eq0 : goal.returns-then-i-eq0

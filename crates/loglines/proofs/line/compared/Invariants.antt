@@ -1,13 +1,10 @@
 -- The numbers passed agreed, so what is off is what is off among those left; the measure is
 -- how many are given and not passed.
-use Prim.Native.Nat.{ℕ, ◌+◌, ◌-◌, ◌≤◌}
-use native.Mathlib.Omega.{arith}
+use Prim.Native.Nat.{◌-◌}
 use lib.ListN.{length}
-use borrow.Author.Rules.{rules}
 use Rattle.loglines.specs.Log.{given_by}
 use Rattle.loglines.specs.Parts.{judged_in}
-use Rattle.loglines.proofs.Offs.{given_most}
-use Rattle.loglines.proofs.Rest.{Passed, none_passed, at_end, at_bad, last_off, last_same, then_off, then_same}
+use Rattle.loglines.proofs.Rest.{Passed}
 use Rattle.loglines.proofs.line.compared.Given as goal
 
 abbrev pub invariant-loop-i : goal.invariant-loop-i

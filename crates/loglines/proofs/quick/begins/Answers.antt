@@ -1,9 +1,5 @@
-use Prim.Native.Nat.{◌≤◌, ◌-◌}
-use mathlib.Core.Path.{◌≡◌}
 use native.Mathlib.Omega.{arith}
-use borrow.Author.Rules.{rules}
-use lib.ListN.{length, take}
-use Rattle.loglines.proofs.Alike.{never, four_more}
+use Rattle.loglines.proofs.Alike.{four_more}
 use Rattle.loglines.proofs.quick.begins.Goals as goal
 
 pub loop-i-preserved : goal.loop-i-preserved

@@ -1,10 +1,7 @@
 -- `loglines::quick::begins` meets its contract. The loop's invariant: the bytes passed are the same, as four bytes are that differ in no bit.
 use Prim.Native.Nat.{◌≤◌, ◌-◌}
 use mathlib.Core.Path.{◌≡◌}
-use native.Mathlib.Omega.{arith}
-use borrow.Author.Rules.{rules}
 use lib.ListN.{length, take}
-use Rattle.loglines.proofs.Alike.{never, four_more}
 use Rattle.loglines.proofs.quick.begins.Given as goal
 
 abbrev pub invariant-loop-i : goal.invariant-loop-i

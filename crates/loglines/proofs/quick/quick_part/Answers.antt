@@ -1,6 +1,5 @@
 -- What its tests say of the six bytes from the place on is a step's text, and a tab.
-use borrow.Author.Rules.{rules}
-use Rattle.loglines.proofs.Quickly.{digit_least, digit_fits, p_stands, one_says, two_says}
+use Rattle.loglines.proofs.Quickly.{p_stands, one_says, two_says}
 use Rattle.loglines.proofs.quick.quick_part.Goals as goal
 
 pub returns-then-letter-lt77 : goal.returns-then-letter-lt77

@@ -1,10 +1,7 @@
 -- `loglines::quick::same_from` meets its contract. The loop's invariant: the bytes passed are the same.
 use Prim.Native.Nat.{◌-◌}
 use mathlib.Core.Path.{◌≡◌}
-use native.Mathlib.Omega.{arith}
-use borrow.Author.Rules.{rules}
 use lib.ListN.{take}
-use Rattle.loglines.proofs.Alike.{never, one_more, fewer}
 use Rattle.loglines.proofs.quick.same_from.Given as goal
 
 abbrev pub invariant-loop-i : goal.invariant-loop-i
