@@ -1,6 +1,6 @@
 -- A table that a program holds is `Held`: owning it tells the lengths of its arrays, and that its tickets have sixteen bits.
 use Prim.Native.Nat.{ℕ, zero, suc, ◌<◌}
-use mathlib.Core.List.{List, [], ◌∷◌, map}
+use mathlib.Core.List.{List, [], ◌∷◌}
 use native.Mathlib.Omega.{arith}
 use denote.Array.{each}
 use denote.Shadow.{shadow}
@@ -17,15 +17,15 @@ use Rattle.ticket.specs.contracts.kinds.Ticket as N
 use Rattle.parts.specs.contracts.kinds.Core as C
 use Rattle.block.specs.contracts.table.Table as T
 
-ticket_small : (n : Ticket) (vs : List Val) → shadow ((N.the_field).row.own_val ((N.the_field).into n) vs) → n.0 < circle
+ticket_small : (n : Ticket) (vs : List Val) → shadow ((N.the_row).own_val n vs) → n.0 < circle
 ticket_small n vs h = h.1.1.0.1
 
-core_small : (x : Core) (vs : List Val) → shadow ((C.the_field).row.own_val ((C.the_field).into x) vs) → (x.own.0 < circle) × (x.carried.0 < circle)
+core_small : (x : Core) (vs : List Val) → shadow ((C.the_row).own_val x vs) → (x.own.0 < circle) × (x.carried.0 < circle)
 core_small x vs h = (ticket_small x.own h.0.0 h.1.1.0, ticket_small x.carried h.0.1.0 h.1.1.1.0)
 
 cores_small :
     (xs : List Core) (us : List Val) →
-    shadow (each (C.the_field).row.Denot (C.the_field).row.own_val (map (C.the_field).into xs) us) →
+    shadow (each Core (C.the_row).own_val xs us) →
     (k : ℕ) →
     ((get_or xs k idle).own.0 < circle) × ((get_or xs k idle).carried.0 < circle)
 cores_small [] us h k = (omega arith, omega arith)
