@@ -51,6 +51,20 @@ told a b x e = subst (λ (y : Comparison). Condition y (behind a b)) e (conditio
 pub exactly_one : ExactlyOne
 exactly_one a b = (condition a b, compared a b)
 
+-- what the tests of `compare` have shown of the difference d is the condition of the answer
+module _ (a b d : ℕ) (distance : d ≡ behind a b) where
+  pub of_older : half < d → Older ≡ compare a b
+  of_older h = sym (compared a b Older (omega arith))
+
+  pub of_opposite : d ≡ half → Opposite ≡ compare a b
+  of_opposite e = sym (compared a b Opposite (sym distance ∙ e))
+
+  pub of_same : d ≡ 0 → Same ≡ compare a b
+  of_same e = sym (compared a b Same (sym distance ∙ e))
+
+  pub of_younger : d ≢ 0 → d ≢ half → d ≤ half → Younger ≡ compare a b
+  of_younger some other h = sym (compared a b Younger (omega arith, omega arith))
+
 -- equal tickets
 pub same : (t : ℕ) → compare t t ≡ Same
 same t = compared t t Same (behind_self t)

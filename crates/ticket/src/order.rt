@@ -23,6 +23,7 @@ pub fn behind(a: Ticket, b: Ticket) -> u16
 }
 
 // What `a` is, seen from `b`: by their difference, after the cut.
+#[tactic(auto, using(crate::proofs::Laws::of_older, crate::proofs::Laws::of_opposite, crate::proofs::Laws::of_same, crate::proofs::Laws::of_younger))]
 pub fn compare(a: Ticket, b: Ticket) -> Comparison
     ensures { result ≡ compare a.0 b.0 }
 {
