@@ -1,14 +1,11 @@
 use Prim.Native.Nat.{ℕ, ◌+◌, ◌-◌, ◌≤◌, ◌<◌}
 use mathlib.Core.Bool.{Bool, true, false}
 use mathlib.Core.List.{List}
-use mathlib.Core.Logic.{⊎_elim}
 use mathlib.Core.Path.{◌≡◌, refl, sym, ◌∙◌, ap, ap₂, subst}
 use native.Mathlib.Omega.{arith}
-use lib.ListN.{length, get_or, set, length-set}
-use borrow.Author.Rules.{rules, counted_is}
-use borrow.Author.Tests.{not-true, not-false}
+use lib.ListN.{length, set, length-set}
 use Rattle.ticket.specs.declared.kinds.CoreNo.{CoreNo}
-use Rattle.parts.specs.Parts.{cores, units, nobody}
+use Rattle.parts.specs.Parts.{cores, units}
 use Rattle.parts.specs.Profile.{dequeues}
 use Rattle.parts.specs.declared.kinds.Counts.{Counts}
 use Rattle.parts.specs.declared.kinds.Register.{Register}
@@ -16,18 +13,17 @@ use Rattle.parts.specs.declared.kinds.Next.{Next}
 use Rattle.refusals.specs.Judge.{live}
 use Rattle.refusals.specs.Tickets.{own_in, lives_of, owns_of}
 use Rattle.refusals.proofs.Apart.{lives_long, owns_long, lives_set, owns_set}
-use Rattle.settling.specs.Line.{Within, stored}
+use Rattle.settling.specs.Line.{Within}
 use Rattle.settling.specs.Settle.{passed_to_lem, repicked}
 use Rattle.settling.specs.declared.line.Best.{Best}
 use Rattle.settling.specs.declared.dropping.Dropping.{Dropping}
-use Rattle.settling.proofs.NextInLine.{stored_within, passed_within}
+use Rattle.settling.proofs.NextInLine.{passed_within}
 use Rattle.block.specs.Apart.{gathered}
 use Rattle.block.specs.PutBack.{put_back}
-use Rattle.block.specs.Skipping.{skips, skipped}
+use Rattle.block.specs.Skipping.{skipped}
 use Rattle.block.specs.Sound.{sound}
 use Rattle.block.specs.Steps.{on_sound}
 use Rattle.block.specs.Table.{core_of, Shaped}
-use Rattle.parts.specs.declared.answer.Step.{Step}
 use Rattle.block.specs.declared.stepped.Stepped.{Stepped}
 use Rattle.block.specs.declared.table.Table.{Table}
 use Rattle.block.proofs.Held.{held}
@@ -36,7 +32,7 @@ use Rattle.block.proofs.GivingWay.{Ready, way_asked, way_calm, drop_asks, ready_
 use Rattle.block.proofs.Rows.{rows_long, nexts_long, gathered_back, Put, puts_light, puts_again, Back, back_both, back_none, gathered_stepped}
 use Rattle.expected.specs.Expected.{expected_bytes}
 use Rattle.digits.specs.declared.room.Written.TheVariants.{NoRoom}
-use Rattle.digits.proofs.Pasting.{kept, roomy, refused}
+use Rattle.digits.proofs.Pasting.{kept, refused}
 use Rattle.calls.specs.Call.{call}
 use Rattle.calls.specs.Placed.{run_at, stopped_at}
 use Rattle.calls.proofs.Within.{read_within}

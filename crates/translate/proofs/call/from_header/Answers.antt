@@ -1,0 +1,37 @@
+-- The case of the header's line that was read, and of the opening line that was written; the table that was built is sound.
+use mathlib.Core.Path.{refl, sym, ◌∙◌, ap}
+use Rattle.block.specs.Sound.{sound}
+use Rattle.stops.specs.declared.run.Run.{Run}
+use Rattle.laws.proofs.Keeping.{built_sound}
+use Rattle.translate.proofs.Turning.{no_header, cut_header, opened_by, out_of_range, no_room_opening}
+use Rattle.translate.proofs.call.from_header.Goals as goal
+
+pub step_lines-requires : goal.step_lines-requires
+step_lines-requires c =
+    let q = c.fresh_run-opened.ensures in
+    (ap (λ (r : Run). r.headed) q, sym (ap (λ (r : Run). sound r.table) q ∙ (built_sound c.in-Header.counts c.in-Header.counter).0))
+
+pub returns-in-Next : goal.returns-in-Next
+returns-in-Next c =
+    let a = c.args in
+    let h = c.in-Header in
+    opened_by a.run a.script.now a.out.now c.requires _ h.ensures.0 h.counts h.counter h.next refl _ _
+    (c.in-Next.ensures.0, c.in-Next.ensures.1) c.in-Next.w c.fresh_run-opened.result _ _ refl c.fresh_run-opened.ensures c.step_lines.ensures
+
+pub returns-in-OutOfRange : goal.returns-in-OutOfRange
+returns-in-OutOfRange c =
+    let a = c.args in
+    let h = c.in-Header in
+    absurd (out_of_range a.run a.script.now a.out.now c.requires _ h.ensures.0 h.counts h.counter h.next refl _ _ (c.in-OutOfRange.ensures.0, c.in-OutOfRange.ensures.1) refl)
+
+pub returns-in-NoRoom : goal.returns-in-NoRoom
+returns-in-NoRoom c =
+    let a = c.args in
+    let h = c.in-Header in
+    no_room_opening a.run a.script.now a.out.now c.requires _ h.ensures.0 h.counts h.counter h.next refl _ _ (c.in-NoRoom.ensures.0, c.in-NoRoom.ensures.1) refl
+
+pub returns-in-BadHeader : goal.returns-in-BadHeader
+returns-in-BadHeader c = no_header c.args.run c.args.script.now c.args.out.now c.requires _ c.in-BadHeader.ensures.0 refl
+
+pub returns-in-Unfinished : goal.returns-in-Unfinished
+returns-in-Unfinished c = cut_header c.args.run c.args.script.now c.args.out.now c.requires _ c.in-Unfinished.ensures.0 refl
