@@ -8,7 +8,7 @@ use mathlib.Core.Path.{◌≡◌, refl, sym, ◌∙◌, ap, subst}
 use native.Mathlib.Omega.{arith}
 use lib.ListN.{length, drop, length-append, length-drop}
 use lib.Seq.{drop-append_seam, drop-drop}
-use borrow.Author.Tests.{eq-eqb, lt-leb}
+use borrow.Author.Tests.{lt-leb}
 use Rattle.parts.specs.Answer.{number_of}
 use Rattle.parts.specs.declared.answer.Answer.{Answer}
 use Rattle.parts.specs.declared.answer.Answer.TheVariants.{Done, Granted, NotYet, NoCore, NoUnit, WrongState, WrongClass, Masked, Stretched, Unsound, OutOfRange}
@@ -37,7 +37,7 @@ use Rattle.walks.proofs.Along.{within, on, stop}
 use Rattle.calls.specs.Call.{Known, working, known}
 use Rattle.room.specs.Claims.{Held}
 use Rattle.room.proofs.Lines.{held_step, held_built, step_placed}
-use Rattle.loglines.specs.Log.{grants_given, first_off}
+use Rattle.loglines.specs.Log.{grants_given}
 use Rattle.logs.specs.Checking.{given, line_judged, checking, check_call}
 use Rattle.logs.specs.Claims.{log_bytes, steps_log, table_after, log_of, AllSmall, Accepts, Accepted}
 use Rattle.logs.specs.declared.call.LogStop.{LogStop}

@@ -1,9 +1,9 @@
 -- One turn of the loop over the log's lines: what is still to be answered stays the same over a line that agrees, and is what is handed back at one
 -- that stops the run. On a table that is not sound the next line stops it. A header's line is followed by the lines behind it.
 use Prim.Native.Nat.{ℕ, ◌+◌, ◌≤◌, ◌<◌}
-use mathlib.Core.Bool.{Bool, true, false, cond}
+use mathlib.Core.Bool.{Bool, true, false}
 use mathlib.Core.List.{List, []}
-use mathlib.Core.Logic.{◌⊎◌, inl, inr}
+use mathlib.Core.Logic.{inl, inr}
 use mathlib.Core.Path.{◌≡◌, refl, sym, ◌∙◌, ap, subst}
 use native.Mathlib.Omega.{arith}
 use lib.ListN.{length, drop}
@@ -27,7 +27,7 @@ use Rattle.stops.specs.Run.{steps_most}
 use Rattle.stops.specs.declared.run.Run.{Run}
 use Rattle.stops.specs.declared.run.Stop.{Stop}
 use Rattle.stops.specs.declared.run.Stop.TheVariants.{Finished, Malformed, BadHeader, Unfinished, TooMany}
-use Rattle.walks.specs.Walk.{Reply, Desk, halted}
+use Rattle.walks.specs.Walk.{Desk}
 use Rattle.walks.specs.Pieces.{lent}
 use Rattle.walks.proofs.Along.{on, stop}
 use Rattle.calls.specs.Call.{Known, known}

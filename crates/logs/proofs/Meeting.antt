@@ -6,7 +6,6 @@ use mathlib.Core.List.{List, [], ◌∷◌, ◌++◌, append_assoc}
 use mathlib.Core.Logic.{◌⊎◌, inl, inr, ⊎_elim}
 use mathlib.Core.Path.{◌≡◌, refl, sym, ◌∙◌, ap, subst}
 use native.Mathlib.Omega.{arith}
-use lib.Dec.{eqb}
 use lib.ListN.{length, take, drop, take-append-drop, length-append, length-drop}
 use lib.Seq.{take_all, drop-drop, take-append_seam}
 use borrow.Author.Tests.{not-true, not-false}
@@ -26,7 +25,7 @@ use Rattle.lines.specs.Reading.{ending}
 use Rattle.lines.specs.declared.reading.Ending.TheVariants.{At}
 use Rattle.writing.specs.Writing.{fields, numbers_of}
 use Rattle.writing.specs.Claims.{Small}
-use Rattle.loglines.specs.Log.{log_most, Shown, parse_log, grants_given, given_by, first_off, off_at}
+use Rattle.loglines.specs.Log.{log_most, Shown, parse_log, grants_given, given_by}
 use Rattle.loglines.specs.Parts.{part_in, rest_from, judged_in}
 use Rattle.loglines.specs.Quick.{tabs, step_text, OneDigit, StandsAt, SameBytes}
 use Rattle.logs.specs.Due.{line_in, plain_due, Reads, Follows, met_by, plain_met}
@@ -36,7 +35,7 @@ use Rattle.logs.specs.declared.call.Met.{Met}
 use Rattle.logs.specs.declared.call.Met.TheVariants.{Agrees}
 use Rattle.loglines.specs.declared.line.Part.TheVariants.{Step as Begins}
 use Rattle.loglines.specs.declared.line.Judged.{Judged}
-use Rattle.loglines.specs.declared.line.Judged.TheVariants.{Disagrees as IsOff, Agrees as AllGiven}
+use Rattle.loglines.specs.declared.line.Judged.TheVariants.{Agrees as AllGiven}
 use Rattle.loglines.proofs.Parts.{parse_bad, parse_line}
 use Rattle.loglines.proofs.Quickly.{in_full}
 use Rattle.loglines.proofs.Offs.{given_most, first_same}

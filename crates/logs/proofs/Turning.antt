@@ -4,7 +4,7 @@ use Prim.Native.Nat.{ℕ, ◌+◌, ◌-◌, ◌≤◌, ◌<◌}
 use mathlib.Core.Bool.{Bool, true, false, cond}
 use mathlib.Core.List.{List, []}
 use mathlib.Core.Logic.{◌⊎◌, inl, inr}
-use mathlib.Core.Path.{◌≡◌, refl, sym, ◌∙◌, ap, subst}
+use mathlib.Core.Path.{◌≡◌, refl, sym, ◌∙◌, ap}
 use native.Mathlib.Nat.{add-zero}
 use native.Mathlib.Omega.{arith}
 use lib.Dec.{leb}
@@ -35,7 +35,7 @@ use Rattle.loglines.specs.Quick.{QuickSays}
 use Rattle.logs.specs.Due.{line_in, part_due, end_due, plain_due, full_due, Timely, DueSays, met_by, due_met, plain_met, unfit_part, stopped_at}
 use Rattle.logs.specs.Checking.{given, line_judged, end_judged, checking, check_call, checked}
 use Rattle.logs.specs.declared.call.LogStop.{LogStop}
-use Rattle.logs.specs.declared.call.LogStop.TheVariants.{Plain, Disagrees}
+use Rattle.logs.specs.declared.call.LogStop.TheVariants.{Plain}
 use Rattle.logs.specs.declared.call.Checked.{Checked}
 use Rattle.logs.specs.declared.call.Behind.{Behind}
 use Rattle.logs.specs.declared.call.Due.{Due}

@@ -2,12 +2,10 @@
 -- at that line, the table as before it. All lines before it agreed and were worked."
 use Rattle.std.specs.Prelude.{ℕ, ◌+◌, cond, List, [], ◌⊎◌, eqb, leb, length, take}
 use Rattle.std.proofs.Common.{inl, inr, ⊎_elim}
-use Rattle.ticket.specs.declared.kinds.Ticket.{Ticket}
 use Rattle.building.specs.Build.{build}
 use Rattle.block.specs.Sound.{sound}
 use Rattle.block.specs.Steps.{step}
 use Rattle.block.specs.declared.stepped.Stepped.{Stepped}
-use Rattle.parts.specs.declared.kinds.Counts.{Counts}
 use Rattle.lines.specs.Reading.{ending}
 use Rattle.lines.specs.declared.reading.Ending.{Ending}
 use Rattle.lines.specs.declared.reading.Ending.TheVariants.{At, Long, Short}

@@ -1,12 +1,12 @@
 -- The replies of a call after its header: each is the answer to one step line, and has no more bytes than the longest expected line. So no
 -- call writes more than so much for each step line, and so much room is enough.
-use Prim.Native.Nat.{ℕ, zero, suc, ◌+◌, ◌*◌, ◌-◌, ◌≤◌, ◌<◌}
+use Prim.Native.Nat.{ℕ, zero, suc, ◌+◌, ◌*◌, ◌-◌, ◌≤◌}
 use mathlib.Core.Bool.{Bool, true, false, cond}
-use mathlib.Core.List.{List, [], ◌∷◌, ◌++◌}
-use mathlib.Core.Logic.{◌⊎◌, inl, inr, ⊎_elim, ◌≢◌}
+use mathlib.Core.List.{List, [], ◌∷◌}
+use mathlib.Core.Logic.{inl, inr, ⊎_elim, ◌≢◌}
 use mathlib.Core.Path.{◌≡◌, refl, sym, ◌∙◌, ap, subst}
 use native.Mathlib.Omega.{arith}
-use lib.Dec.{leb, ltb}
+use lib.Dec.{ltb}
 use lib.ListN.{length, drop, length-append, length-drop}
 use borrow.Author.Tests.{leb-false}
 use Rattle.ticket.specs.declared.kinds.Ticket.{Ticket}
@@ -21,11 +21,10 @@ use Rattle.lines.specs.Reading.{read_step}
 use Rattle.lines.specs.declared.reading.StepLine.{StepLine}
 use Rattle.lines.specs.declared.reading.StepLine.TheVariants.{Line, Finished, Malformed, Unfinished}
 use Rattle.headers.specs.Header.{read_header}
-use Rattle.headers.specs.declared.reading.HeaderLine.{HeaderLine}
 use Rattle.headers.specs.declared.reading.HeaderLine.TheVariants.{Header}
 use Rattle.digits.specs.Text.{pasted}
 use Rattle.digits.specs.Room.{fits}
-use Rattle.expected.specs.Expected.{expected_most, expected_bytes}
+use Rattle.expected.specs.Expected.{expected_most}
 use Rattle.writing.specs.Writing.{output_header}
 use Rattle.writing.proofs.AsWritten.{header_read_is_written}
 use Rattle.writing.proofs.Lengths.{header_most}
@@ -33,10 +32,10 @@ use Rattle.stops.specs.Run.{steps_most, beginning}
 use Rattle.stops.specs.declared.run.Run.{Run}
 use Rattle.stops.specs.declared.run.Stop.{Stop}
 use Rattle.stops.specs.declared.run.Stop.TheVariants.{NoRoom}
-use Rattle.walks.specs.Walk.{Reply, Ended, walked, halted}
+use Rattle.walks.specs.Walk.{Reply, Ended, halted}
 use Rattle.walks.proofs.Pasting.{fits_says, pasted_length}
 use Rattle.walks.proofs.Chains.{said, also, Chain, stretch, room_enough, runs_out}
-use Rattle.calls.specs.Call.{Known, working, step_reply, translation, known, desk_of, call}
+use Rattle.calls.specs.Call.{Known, translation, known, desk_of, call}
 use Rattle.calls.specs.Placed.{run_at, opening}
 use Rattle.calls.proofs.Asked.{Stepping, Opening, asked_says, translation_steady}
 use Rattle.calls.proofs.Within.{read_within}

@@ -1,12 +1,12 @@
 -- The steps that a call worked are the step lines of its script, or as many as can be worked: a call that stops for another reason than room
 -- stands at the first line that is no step line, or has worked them all.
-use Prim.Native.Nat.{ℕ, zero, suc, ◌+◌, ◌≤◌, ◌<◌}
-use mathlib.Core.Bool.{Bool, true, false, cond}
+use Prim.Native.Nat.{ℕ, zero, suc, ◌+◌, ◌≤◌}
+use mathlib.Core.Bool.{Bool, true, false}
 use mathlib.Core.List.{List, [], ◌∷◌}
 use mathlib.Core.Logic.{◌⊎◌, inl, inr, ⊎_elim, ◌≢◌}
 use mathlib.Core.Path.{◌≡◌, refl, sym, ◌∙◌, ap, subst}
 use native.Mathlib.Omega.{arith}
-use lib.Dec.{leb, ltb}
+use lib.Dec.{leb}
 use lib.ListN.{length, drop, length-drop}
 use borrow.Author.Tests.{leb-true, le-ltb}
 use Rattle.parts.proofs.Bools.{clash}
@@ -24,14 +24,12 @@ use Rattle.digits.specs.Room.{fits}
 use Rattle.laws.proofs.Claims.{keeps_sound}
 use Rattle.laws.proofs.Keeping.{built_sound}
 use Rattle.stops.specs.Run.{steps_most, beginning}
-use Rattle.stops.specs.Due.{line_due}
 use Rattle.stops.specs.declared.run.Stop.{Stop}
-use Rattle.stops.specs.declared.run.Stop.TheVariants.{NoRoom, Finished, TooMany}
-use Rattle.stops.specs.declared.todo.Todo.TheVariants.{Stop as Halt}
-use Rattle.walks.specs.Walk.{Reply, Ended, walked}
+use Rattle.stops.specs.declared.run.Stop.TheVariants.{NoRoom}
+use Rattle.walks.specs.Walk.{Reply, Ended}
 use Rattle.walks.proofs.Along.{Halts}
 use Rattle.walks.proofs.Chains.{Chain, stretch}
-use Rattle.calls.specs.Call.{Known, step_asked, asked, translation, known, desk_of, call}
+use Rattle.calls.specs.Call.{Known, asked, translation, known, desk_of, call}
 use Rattle.calls.proofs.Asked.{asked_by, Stepping, Opening, asked_says, translation_steady}
 use Rattle.calls.proofs.Within.{read_within}
 use Rattle.room.specs.Room.{workable, room_for, step_lines_in, step_lines}

@@ -1,14 +1,12 @@
 -- A line is no longer than the longest, and what a program holds stays so. The tickets of an allowed step are the counter, the core's own or
 -- carried one, or what a register shows, and a sound table's registers show its cores' tickets; its grants are of its units and cores.
 use Prim.Native.Nat.{ℕ, zero, suc, ◌≤◌, ◌<◌}
-use mathlib.Core.Bool.{Bool, true, false, cond, ◌&&◌}
+use mathlib.Core.Bool.{Bool, true, false, cond}
 use mathlib.Core.List.{Memᴰ}
 use mathlib.Core.Logic.{◌⊎◌, inl, inr, ⊎_elim, ◌≢◌}
 use mathlib.Core.Path.{◌≡◌, refl, sym, ◌∙◌, ap, subst}
 use native.Mathlib.Omega.{arith}
-use lib.Dec.{leb}
 use lib.ListN.{length, get_or, replicate}
-use borrow.Author.Tests.{leb-true}
 use Rattle.ticket.specs.Kinds.{ticket}
 use Rattle.ticket.specs.Order.{circle, compare, after}
 use Rattle.ticket.specs.declared.kinds.Grant.{Grant}

@@ -4,7 +4,6 @@ use mathlib.Core.Bool.{Bool, true, cond}
 use mathlib.Core.List.{List, []}
 use mathlib.Core.Logic.{◌⊎◌, inl, inr, ⊎_elim}
 use mathlib.Core.Path.{◌≡◌, refl, sym, ◌∙◌, ap, subst}
-use Rattle.block.specs.Sound.{sound}
 use Rattle.block.specs.declared.stepped.Stepped.{Stepped}
 use Rattle.laws.proofs.Keeping.{built_sound}
 use Rattle.laws.proofs.Claims.{keeps_sound}
