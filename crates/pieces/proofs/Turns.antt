@@ -1,18 +1,18 @@
 -- A turn is one walk more: the call from the run's place is the walk over the bytes from there on.
-use Prim.Native.Nat.{ℕ, ◌+◌, ◌≤◌}
+use Prim.Native.Nat.{ℕ}
 use mathlib.Core.List.{List, [], ◌++◌}
 use mathlib.Core.Path.{◌≡◌, sym, ◌∙◌, ap}
 use native.Mathlib.Nat.{add-zero}
 use native.Mathlib.Omega.{arith}
-use lib.ListN.{length, take, drop, length-append, length-drop}
+use lib.ListN.{length, drop}
 use lib.Seq.{drop-drop, take-append_seam}
 use Rattle.stops.specs.declared.run.Run.{Run}
 use Rattle.stops.specs.declared.run.Stop.{Stop}
-use Rattle.walks.specs.Walk.{Desk, Ended, walked}
-use Rattle.walks.specs.Pieces.{lent, fresh, Going, gone_on, given}
+use Rattle.walks.specs.Walk.{Ended, walked}
+use Rattle.walks.specs.Pieces.{lent, fresh, Going, gone_on}
 use Rattle.walks.proofs.Front.{ended_on, walked_on}
 use Rattle.walks.proofs.Pasting.{take_with, pasted_length}
-use Rattle.calls.specs.Call.{Known, translation, known, desk_of, call}
+use Rattle.calls.specs.Call.{Known, translation, known, call}
 use Rattle.calls.proofs.Asked.{translation_steady}
 use Rattle.pieces.specs.Piece.{emptied}
 use Rattle.pieces.specs.Claims.{TurnGiven, ReadBehind}

@@ -10,18 +10,6 @@ use Rattle.pieces.proofs.keep.Goals as goal
 pub loop-i-init : goal.loop-i-init
 loop-i-init c = (refl, sym (add-zero c.args.place), omega arith, refl)
 
-pub bounds-piece-i : goal.bounds-piece-i
-bounds-piece-i c =
-    let a = c.args in
-    let e = within_left a.piece.now a.place a.have c.within-end.result c.within-end.ensures in
-    omega (arith, e.0, c.loop-i.invariant.3, c.loop-i-test)
-
-pub bounds-piece-rest : goal.bounds-piece-rest
-bounds-piece-rest c =
-    let a = c.args in
-    let e = within_left a.piece.now a.place a.have c.within-end.result c.within-end.ensures in
-    omega (arith, e.0, c.loop-i.invariant.1, c.loop-i.invariant.3, c.loop-i-test)
-
 pub loop-i-preserved : goal.loop-i-preserved
 loop-i-preserved c =
     let a = c.args in
