@@ -1,4 +1,4 @@
--- How many bytes of a piece a number counts.
+-- Detail: how many bytes of a piece a number counts.
 use Rattle.std.specs.Prelude.{ℕ, ◌≡◌, ◌≤◌, List, length, take}
 
 -- `&xs[..n]` is in bounds and has n bytes. The second part follows from the first, and spares a caller's `&piece[..n]` a proof file.
