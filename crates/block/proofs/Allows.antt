@@ -14,7 +14,7 @@ use Rattle.refusals.specs.Judge.{no_core, no_unit, stretched, wrong_class}
 use Rattle.parts.specs.declared.kinds.State.{State}
 use Rattle.parts.specs.declared.kinds.State.TheVariants.{Idle, Waiting, Holding, WaitingSecond, HoldingBoth, Away, Marked, Dropped}
 use Rattle.block.specs.declared.table.Table.{Table}
-use Rattle.refusals.specs.declared.verdict.Verdict.TheVariants.{Allowed}
+use Rattle.refusals.specs.Verdict.{Allowed}
 use Rattle.parts.proofs.Bools.{clash}
 use Rattle.refusals.proofs.Refusals.{unless_not}
 

@@ -18,7 +18,7 @@ use Rattle.block.specs.Parts.{Sound}
 use Rattle.block.specs.Sound.{sound}
 use Rattle.block.specs.Steps.{verdict}
 use Rattle.block.specs.declared.table.Table.{Table}
-use Rattle.refusals.specs.declared.verdict.Verdict.TheVariants.{Allowed}
+use Rattle.refusals.specs.Verdict.{Allowed}
 use Rattle.block.proofs.Parts.{parts}
 use Rattle.block.proofs.Entering.{Past}
 use Rattle.block.proofs.Allows.{is_idle_lem_lem, may_request, may_nest, may_poll, may_interrupt, may_come_back, may_release}

@@ -39,8 +39,8 @@ use Rattle.settling.specs.declared.line.Best.{Best}
 use Rattle.settling.specs.declared.line.Best.TheVariants.{Nobody, Won}
 use Rattle.settling.specs.declared.dropping.Dropping.{Dropping}
 use Rattle.refusals.specs.Judge.{judge}
-use Rattle.refusals.specs.declared.verdict.Verdict.{Verdict}
-use Rattle.refusals.specs.declared.verdict.Verdict.TheVariants.{Allowed}
+use Rattle.refusals.specs.Verdict.{Verdict}
+use Rattle.refusals.specs.Verdict.{Allowed}
 use Rattle.effects.specs.Effect.{makes, interrupt, step_effect}
 use Rattle.effects.specs.declared.kinds.Move.TheVariants.{GiveUp}
 use Rattle.effects.specs.declared.kinds.Effect.{Effect}

@@ -30,7 +30,7 @@ use Rattle.settling.specs.declared.line.Best.{Best}
 use Rattle.settling.specs.declared.line.Best.TheVariants.{Nobody, Won}
 use Rattle.refusals.specs.Judge.{far, old, stretched}
 use Rattle.soundness.specs.Sound.{half_behind_lem, reads_older_lem}
-use Rattle.refusals.specs.declared.verdict.Verdict.TheVariants.{Allowed}
+use Rattle.refusals.specs.Verdict.{Allowed}
 use Rattle.effects.specs.Effect.{request, release, counts_dropped, marked_away, interrupt, enter_again, go_on, heritable, heir}
 use Rattle.effects.specs.declared.kinds.Move.TheVariants.{Stay, Enter, Carry, GiveUp}
 use Rattle.effects.specs.declared.kinds.Effect.{Effect}

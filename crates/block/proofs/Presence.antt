@@ -30,7 +30,7 @@ use Rattle.settling.specs.Line.{flags, in_line, next, stored}
 use Rattle.settling.specs.Dropping.{away_as}
 use Rattle.settling.specs.declared.line.Best.{Best}
 use Rattle.settling.specs.declared.line.Best.TheVariants.{Nobody, Won}
-use Rattle.refusals.specs.declared.verdict.Verdict.TheVariants.{Allowed}
+use Rattle.refusals.specs.Verdict.{Allowed}
 use Rattle.effects.specs.Effect.{request, interrupt, enter_again, go_on, come_back}
 use Rattle.effects.specs.declared.kinds.Effect.{Effect}
 use Rattle.block.specs.Table.{core_of, unit_of, register_of, Shaped}

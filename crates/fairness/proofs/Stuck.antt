@@ -21,7 +21,7 @@ use Rattle.effects.specs.declared.kinds.Effect.{Effect}
 use Rattle.block.specs.declared.table.Table.{Table}
 use Rattle.parts.specs.declared.answer.Step.TheVariants.{P}
 use Rattle.block.specs.declared.stepped.Stepped.{Stepped}
-use Rattle.refusals.specs.declared.verdict.Verdict.TheVariants.{Allowed}
+use Rattle.refusals.specs.Verdict.{Allowed}
 use Rattle.parts.proofs.Bools.{not_true_false, clash}
 use Rattle.parts.proofs.Folds.{some_at, at_some, some_none, none_count}
 use Rattle.block.proofs.Standing.{first_in, second_after}

@@ -27,7 +27,7 @@ use Rattle.block.specs.declared.table.Table.{Table}
 use Rattle.parts.specs.declared.answer.Step.{Step}
 use Rattle.parts.specs.declared.answer.Step.TheVariants.{R, N, P, I, C, L}
 use Rattle.block.specs.declared.stepped.Stepped.{Stepped}
-use Rattle.refusals.specs.declared.verdict.Verdict.TheVariants.{Allowed}
+use Rattle.refusals.specs.Verdict.{Allowed}
 use Rattle.parts.proofs.Folds.{none_some}
 use Rattle.parts.proofs.Ranging.{cores_some, cores_few, first_some}
 use Rattle.laws.proofs.Settling.{settle_rest}

@@ -11,7 +11,7 @@ use Rattle.parts.specs.Answer.{number_of}
 use Rattle.parts.specs.declared.kinds.Counts.{Counts}
 use Rattle.parts.specs.declared.answer.Step.{Step}
 use Rattle.parts.specs.declared.answer.Grants.TheVariants.{Two}
-use Rattle.refusals.specs.declared.verdict.Verdict.TheVariants.{Allowed}
+use Rattle.refusals.specs.Verdict.{Allowed}
 use Rattle.block.specs.Table.{core_of, register_of, unit_count, Shaped}
 use Rattle.block.specs.Sound.{sound}
 use Rattle.block.specs.Settle.{settle}

@@ -3,8 +3,8 @@ use mathlib.Core.Bool.{Bool, true, false}
 use mathlib.Core.Path.{◌≡◌, sym, ◌∙◌, refl}
 use Rattle.refusals.specs.Judge.{unless}
 use Rattle.parts.specs.declared.answer.Answer.{Answer}
-use Rattle.refusals.specs.declared.verdict.Verdict.{Verdict}
-use Rattle.refusals.specs.declared.verdict.Verdict.TheVariants.{Refused, Allowed}
+use Rattle.refusals.specs.Verdict.{Verdict}
+use Rattle.refusals.specs.Verdict.{Refused, Allowed}
 use Prim.Native.Nat.{ℕ}
 use native.Mathlib.Omega.{arith}
 

@@ -1,2 +1,3 @@
+pub mod Verdict
 pub mod Judge
 pub mod Tickets

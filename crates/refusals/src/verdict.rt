@@ -8,11 +8,8 @@ use parts::{
 };
 use ticket::{CoreNo, UnitNo};
 
-#[derive(Clone, Copy)]
-pub enum Verdict {
-    Allowed,
-    Refused(Answer),
-}
+// A step is allowed, or refused with an answer.
+pub type Verdict = Result<(), Answer>;
 
 // 10: the core is not in the table.
 fn no_core(counts: Counts, k: CoreNo) -> bool
@@ -40,51 +37,51 @@ fn may_request(counts: Counts, late: bool, k: CoreNo, s: State, u: UnitNo) -> Ve
     ensures { result ≡ may_request counts late k s u }
 {
     if no_core(counts, k) {
-        return Verdict::Refused(Answer::NoCore);
+        return Err(Answer::NoCore);
     }
     if no_unit(counts, u) {
-        return Verdict::Refused(Answer::NoUnit);
+        return Err(Answer::NoUnit);
     }
     if !is_idle(s) {
-        return Verdict::Refused(Answer::WrongState);
+        return Err(Answer::WrongState);
     }
     if late {
-        return Verdict::Refused(Answer::Stretched);
+        return Err(Answer::Stretched);
     }
-    Verdict::Allowed
+    Ok(())
 }
 
 fn may_nest(counts: Counts, k: CoreNo, s: State, held: UnitNo, u: UnitNo) -> Verdict
     ensures { result ≡ may_nest counts k s held u }
 {
     if no_core(counts, k) {
-        return Verdict::Refused(Answer::NoCore);
+        return Err(Answer::NoCore);
     }
     if no_unit(counts, u) {
-        return Verdict::Refused(Answer::NoUnit);
+        return Err(Answer::NoUnit);
     }
     if !holds_one(s) {
-        return Verdict::Refused(Answer::WrongState);
+        return Err(Answer::WrongState);
     }
     if wrong_class(counts, held, u) {
-        return Verdict::Refused(Answer::WrongClass);
+        return Err(Answer::WrongClass);
     }
-    Verdict::Allowed
+    Ok(())
 }
 
 fn may_interrupt(counts: Counts, k: CoreNo, s: State) -> Verdict
     ensures { result ≡ may_interrupt counts k s }
 {
     if no_core(counts, k) {
-        return Verdict::Refused(Answer::NoCore);
+        return Err(Answer::NoCore);
     }
     if holds(s) {
-        return Verdict::Refused(Answer::Masked);
+        return Err(Answer::Masked);
     }
     if !waits(s) {
-        return Verdict::Refused(Answer::WrongState);
+        return Err(Answer::WrongState);
     }
-    Verdict::Allowed
+    Ok(())
 }
 
 // P and L: whether the core's state is the right one.
@@ -92,12 +89,12 @@ fn in_state(counts: Counts, k: CoreNo, right: bool) -> Verdict
     ensures { result ≡ in_state counts k right }
 {
     if no_core(counts, k) {
-        return Verdict::Refused(Answer::NoCore);
+        return Err(Answer::NoCore);
     }
     if !right {
-        return Verdict::Refused(Answer::WrongState);
+        return Err(Answer::WrongState);
     }
-    Verdict::Allowed
+    Ok(())
 }
 
 // A dropped core takes a new ticket when it comes back, as a request does.
@@ -105,15 +102,15 @@ fn may_come_back(counts: Counts, late: bool, k: CoreNo, s: State) -> Verdict
     ensures { result ≡ may_come_back counts late k s }
 {
     if no_core(counts, k) {
-        return Verdict::Refused(Answer::NoCore);
+        return Err(Answer::NoCore);
     }
     if !is_away(s) {
-        return Verdict::Refused(Answer::WrongState);
+        return Err(Answer::WrongState);
     }
     if is_dropped(s) & late {
-        return Verdict::Refused(Answer::Stretched);
+        return Err(Answer::Stretched);
     }
-    Verdict::Allowed
+    Ok(())
 }
 
 // Seam: whether a step is allowed, of which c is the core that it names; `late` is the answer to 15's question.

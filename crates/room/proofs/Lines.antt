@@ -29,8 +29,8 @@ use Rattle.parts.specs.declared.kinds.Register.{Register}
 use Rattle.settling.specs.Line.{next}
 use Rattle.settling.specs.declared.line.Best.{Best}
 use Rattle.settling.specs.declared.line.Best.TheVariants.{Nobody, Won}
-use Rattle.refusals.specs.declared.verdict.Verdict.{Verdict}
-use Rattle.refusals.specs.declared.verdict.Verdict.TheVariants.{Allowed, Refused}
+use Rattle.refusals.specs.Verdict.{Verdict}
+use Rattle.refusals.specs.Verdict.{Allowed, Refused}
 use Rattle.effects.specs.Effect.{interrupt, heritable, heir}
 use Rattle.effects.specs.declared.kinds.Effect.{Effect}
 use Rattle.block.specs.Settle.{settle}
