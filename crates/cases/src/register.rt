@@ -3,7 +3,6 @@ use crate::bytes::word;
 use crate::text::{bit, field, head};
 use parts::Register;
 use ticket::Ticket;
-use words::{Packed, Unpacked};
 
 // The register at a place: ticket, valid, flag.
 pub(crate) fn register(s: &[u8], at: usize) -> Register {
@@ -24,20 +23,20 @@ pub(crate) fn put_register(out: &mut [u8], at: usize, r: Register) -> usize {
 
 pub(crate) fn answer_word(s: &[u8], out: &mut [u8], wrote: usize) -> usize {
     match words::unpack(word(s, 1)) {
-        Unpacked::Register(r) => {
+        Some(r) => {
             let to = head(out, wrote, b'W', 0);
             put_register(out, to, r)
         }
-        Unpacked::Refused => head(out, wrote, b'W', 30),
+        None => head(out, wrote, b'W', 30),
     }
 }
 
 pub(crate) fn answer_register(s: &[u8], out: &mut [u8], wrote: usize) -> usize {
     match words::pack(register(s, 1)) {
-        Packed::Word(w) => {
+        Some(w) => {
             let to = head(out, wrote, b'P', 0);
             field(out, to, w)
         }
-        Packed::Refused => head(out, wrote, b'P', 30),
+        None => head(out, wrote, b'P', 30),
     }
 }

@@ -12,7 +12,6 @@ use lines::StepLine;
 use parts::{Counts, Profile, Register, Step};
 use std::io::{Read, Stdin, Stdout};
 use ticket::{CoreNo, Ticket, UnitNo};
-use words::Unpacked;
 
 fn main(rt: HostRuntime) {
     let mut buf = [0; 65536];
@@ -145,8 +144,8 @@ fn word(out: Stdout, s: &[u8]) {
     let low = wide(s[0]) + 256 * wide(s[1]);
     let high = wide(s[2]) + 256 * wide(s[3]);
     match words::unpack(low + 65536 * high) {
-        Unpacked::Register(r) => register(out, r),
-        Unpacked::Refused => say(out, b"30\n"),
+        Some(r) => register(out, r),
+        None => say(out, b"30\n"),
     }
 }
 

@@ -17,9 +17,7 @@ use Rattle.parts.specs.declared.kinds.Profile.TheVariants.{T}
 use Rattle.stops.specs.Run.{beginning}
 use Rattle.calls.specs.Call.{call, output}
 use Rattle.stops.specs.declared.run.Stop.TheVariants.{Finished}
-use Rattle.words.specs.Word.{unpack}
-use Rattle.words.specs.declared.word.Unpacked.{Unpacked}
-use Rattle.words.specs.declared.word.Unpacked.TheVariants.{Register as Shown, Refused as Bad}
+use Rattle.words.specs.Word.{Unpacked, Shown, Bad, unpack}
 
 -- "One run whole. The translator program's input, tabs shown as spaces, lines parted by `;`: T 3 1 1 65535; R 0 1; P 0; R 2 0; R 1 0;
 -- I 2; P 1; N 1 1; C 2; P 1; I 0; L 0; P 1; L 1"

@@ -3,9 +3,7 @@ use Prim.Native.Nat.{ℕ}
 use mathlib.Core.Bool.{Bool, true, false, cond}
 use mathlib.Core.Path.{◌≡◌, refl}
 use Rattle.parts.specs.declared.kinds.Register.{Register}
-use Rattle.words.specs.Word.{packable, word_of, pack, register_of, is_good, unpack, packed_number, unpacked_number}
-use Rattle.words.specs.declared.word.Packed.TheVariants.{Word, Refused}
-use Rattle.words.specs.declared.word.Unpacked.TheVariants.{Register as Shown, Refused as Bad}
+use Rattle.words.specs.Word.{Word, Refused, Shown, Bad, packable, word_of, pack, register_of, is_good, unpack, packed_number, unpacked_number}
 
 -- a function of a choice is a choice of its values
 pub one_choice : {A B : Type 0} (f : A → B) (b : Bool) (x y : A) → f (cond b x y) ≡ cond b (f x) (f y)

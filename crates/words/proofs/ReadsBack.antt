@@ -2,16 +2,13 @@
 -- sixteen bits, as every one that a program holds.
 use Prim.Native.Nat.{ℕ, ◌<◌}
 use mathlib.Core.Bool.{Bool, true, false}
-use mathlib.Core.Path.{◌≡◌, refl, sym, ◌∙◌, ap}
-use native.Mathlib.Omega.{arith}
+use mathlib.Core.Path.{◌≡◌, refl, ◌∙◌, ap}
 use borrow.Author.Tests.{lt-ltb}
 use Rattle.ticket.specs.Kinds.{ticket}
 use Rattle.parts.specs.declared.kinds.Register.{Register}
 use Rattle.parts.proofs.Bools.{and_both}
-use Rattle.words.specs.Word.{packable, word_of, pack, register_of, unpack, is_good}
+use Rattle.words.specs.Word.{Word, Refused, Shown, Bad, packable, word_of, pack, register_of, unpack, is_good}
 use Rattle.words.specs.Claims.{WordReadsBack, WordIsWritten}
-use Rattle.words.specs.declared.word.Packed.TheVariants.{Word, Refused}
-use Rattle.words.specs.declared.word.Unpacked.TheVariants.{Register as Shown, Refused as Bad}
 use Rattle.words.proofs.Good.{narrow, good_packable}
 use Rattle.words.proofs.Bits.{word_narrow, word_register, register_word}
 
@@ -29,31 +26,16 @@ module _ (w : ℕ) where
   pub unpack_refuses : is_good w ≡ false → unpack w ≡ Bad
   unpack_refuses e = rw e
 
-  -- a word that shows a register is good, a refused one is not, and the register that it shows is its own
+  -- a word that shows a register is good, and the register that it shows is its own
   pub shown_good : (r : Register) → unpack w ≡ Shown r → is_good w ≡ true
   shown_good r shown = go (is_good w) refl
     where
       go : (b : Bool) → is_good w ≡ b → is_good w ≡ true
       go true e = e
-      go false e =
-          let both : Shown r ≡ Bad = sym shown ∙ unpack_refuses e in
-          let z : ◌≡◌ {A = ℕ} 0 1 = cc in
-          absurd (omega arith)
-
-  pub refused_bad : unpack w ≡ Bad → is_good w ≡ false
-  refused_bad none = go (is_good w) refl
-    where
-      go : (b : Bool) → is_good w ≡ b → is_good w ≡ false
-      go true e =
-          let both : Bad ≡ Shown (register_of w) = sym none ∙ unpacks e in
-          let z : ◌≡◌ {A = ℕ} 0 1 = cc in
-          absurd (omega arith)
-      go false e = e
+      go false e = let none = unpack_refuses e in cc
 
   pub shown_own : (r : Register) → unpack w ≡ Shown r → r ≡ register_of w
-  shown_own r shown =
-      let both : Shown r ≡ Shown (register_of w) = sym shown ∙ unpacks (shown_good r shown) in
-      cc
+  shown_own r shown = let own = unpacks (shown_good r shown) in cc
 
 -- the word of a packable register shows that register
 module _ (r : Register) (low : r.ticket.0 < 65536) (e : packable r ≡ true) where
@@ -69,13 +51,10 @@ pack_unpack r w low packed = go (packable r) refl
   where
     go : (b : Bool) → packable r ≡ b → unpack w ≡ Shown r
     go true e =
-        let both : Word w ≡ Word (word_of r) = sym packed ∙ packs r e in
+        let own = packs r e in
         let same : w ≡ word_of r = cc in
         ap unpack same ∙ shows r low e
-    go false e =
-        let both : Word w ≡ Refused = sym packed ∙ pack_refuses r e in
-        let z : ◌≡◌ {A = ℕ} 0 1 = cc in
-        absurd (omega arith)
+    go false e = let none = pack_refuses r e in cc
 
 -- each word that is accepted is the word of its register
 pub unpack_pack : WordIsWritten

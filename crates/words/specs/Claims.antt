@@ -2,9 +2,7 @@
 use Rattle.std.specs.Prelude.{ℕ, ◌<◌, ◌≡◌}
 use Rattle.ticket.specs.Order.{circle}
 use Rattle.parts.specs.declared.kinds.Register.{Register}
-use Rattle.words.specs.Word.{pack, unpack}
-use Rattle.words.specs.declared.word.Packed.TheVariants.{Word}
-use Rattle.words.specs.declared.word.Unpacked.TheVariants.{Register as Shown}
+use Rattle.words.specs.Word.{Word, Shown, pack, unpack}
 
 abbrev pub WordReadsBack : Type 0
 WordReadsBack = (r : Register) (w : ℕ) → r.ticket.0 < circle → pack r ≡ Word w → unpack w ≡ Shown r

@@ -1,13 +1,29 @@
 -- "A register reads back as 32 bits: bits 0 to 15 ticket, bit 16 valid, bit 17 flag, the rest 0. An invalid register is the word 0.
 -- Anything else is 30." "Writing an invalid register that has a ticket other than 0 or a flag is 30 too."
-use Rattle.std.specs.Prelude.{ℕ, ◌+◌, ◌*◌, ◌/◌, ◌%◌, Bool, cond, ◌&&◌, ◌||◌, not, eqb, ltb}
+use Rattle.std.specs.Prelude.{ℕ, ◌+◌, ◌*◌, ◌/◌, ◌%◌, Bool, cond, ◌&&◌, ◌||◌, not, eqb, ltb, Option, None, Some}
 use Rattle.ticket.specs.Kinds.{ticket}
 pub use Rattle.parts.specs.Fold.{one as bit}
 use Rattle.parts.specs.declared.kinds.Register.{Register}
-use Rattle.words.specs.declared.word.Packed.{Packed}
-use Rattle.words.specs.declared.word.Packed.TheVariants.{Word, Refused}
-use Rattle.words.specs.declared.word.Unpacked.{Unpacked}
-use Rattle.words.specs.declared.word.Unpacked.TheVariants.{Register as Shown, Refused as Bad}
+
+-- the word of a register, or 30
+abbrev pub Packed : Type 0
+Packed = Option ℕ
+
+pattern abbrev pub Word : ℕ → Packed
+Word w = Some w
+
+pattern abbrev pub Refused : Packed
+Refused = None
+
+-- the register of a word, or 30
+abbrev pub Unpacked : Type 0
+Unpacked = Option Register
+
+pattern abbrev pub Shown : Register → Unpacked
+Shown r = Some r
+
+pattern abbrev pub Bad : Unpacked
+Bad = None
 
 -- ticket in bits 0 to 15, valid in bit 16, flag in bit 17
 abbrev pub word_of : Register → ℕ

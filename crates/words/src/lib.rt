@@ -5,4 +5,4 @@
 
 mod word;
 
-pub use word::{Packed, Unpacked, pack, unpack};
+pub use word::{pack, unpack};
