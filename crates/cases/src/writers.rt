@@ -3,7 +3,7 @@ ghost use Rattle.std.specs.Prelude.{◌≡◌, length};
 
 use crate::bytes::{byte, capital, half, letter, profile, wide, word};
 use crate::text::{field, head, long_field};
-use digits::Written;
+use digits::{Unwritten, Written};
 use parts::{Answer, Counts, Fill, Grants, Step};
 use ticket::{CoreNo, Grant, Ticket, UnitNo};
 
@@ -158,12 +158,12 @@ fn grant(s: &[u8], at: usize) -> Grant {
 // The number of a writer's answer, and the next place if it wrote.
 fn put_written(out: &mut [u8], at: usize, letter: u8, x: Written) -> usize {
     match x {
-        Written::Next(n) => {
+        Ok(n) => {
             let to = head(out, at, letter, 0);
             long_field(out, to, n as u64)
         }
-        Written::OutOfRange => head(out, at, letter, 20),
-        Written::NoRoom => head(out, at, letter, 23),
+        Err(Unwritten::OutOfRange) => head(out, at, letter, 20),
+        Err(Unwritten::NoRoom) => head(out, at, letter, 23),
     }
 }
 

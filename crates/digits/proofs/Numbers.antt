@@ -5,8 +5,8 @@ use mathlib.Core.List.{List}
 use mathlib.Core.Path.{◌≡◌, refl, ◌∙◌, ap}
 use lib.ListN.{length}
 use Rattle.digits.specs.Room.{fits, wrote, left, written_number, write_number}
-use Rattle.digits.specs.declared.room.Written.{Written}
-use Rattle.digits.specs.declared.room.Written.TheVariants.{Next, OutOfRange, NoRoom}
+use Rattle.digits.specs.Written.{Written}
+use Rattle.digits.specs.Written.{Next, OutOfRange, NoRoom}
 
 pub write_number_lem :
     (ranged : Bool) (o : List ℕ) (at : ℕ) (xs : List ℕ) →

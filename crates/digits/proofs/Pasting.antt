@@ -11,7 +11,7 @@ use lib.ListN.{length, take, drop, set, length-set, length-append, length-drop}
 use lib.Seq.{set_split, length-take-le, take-append_seam, drop-append-add, drop-drop}
 use Rattle.digits.specs.Text.{Puts}
 use Rattle.digits.specs.Room.{fits, wrote, left}
-use Rattle.digits.specs.declared.room.Written.TheVariants.{Next, NoRoom}
+use Rattle.digits.specs.Written.{Next, NoRoom}
 
 pub one : (o : List ℕ) (at b q : ℕ) → q ≡ at + 1 → at < length o → Puts o (set o at b) at q (b ∷ [])
 one o at b q e h = record { holds = rw add-one (set_split o at b h); goes = e; fits = omega arith }

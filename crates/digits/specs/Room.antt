@@ -1,8 +1,8 @@
 -- A line is put whole where it fits, and otherwise not at all: "Writing one gives 20 for a header out of range, then 23."
 use Rattle.std.specs.Prelude.{ℕ, ◌+◌, Bool, cond, List, leb, length}
 use Rattle.digits.specs.Text.{pasted}
-use Rattle.digits.specs.declared.room.Written.{Written}
-use Rattle.digits.specs.declared.room.Written.TheVariants.{Next, OutOfRange, NoRoom}
+use Rattle.digits.specs.Written.{Written}
+use Rattle.digits.specs.Written.{Next, OutOfRange, NoRoom}
 
 abbrev pub fits : List ℕ → ℕ → List ℕ → Bool
 fits out at xs = leb (at + length xs) (length out)

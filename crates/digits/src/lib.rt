@@ -7,5 +7,5 @@
 mod room;
 mod text;
 
-pub use room::{Written, has_room};
+pub use room::{Unwritten, Written, has_room};
 pub use text::{put_number, put_tabbed, put_ticket, tabbed_width, width};

@@ -1,10 +1,12 @@
 // What a writer of whole lines answers, and whether there is room for one.
 ghost use Rattle.std.specs.Prelude.{◌≡◌, ◌+◌, leb};
 
-// The place after the line; 20, a header out of range; 23, no room for the whole line.
-#[derive(Clone, Copy)]
-pub enum Written {
-    Next(usize),
+// The place after the line, or why there is none.
+pub type Written = Result<usize, Unwritten>;
+
+// 20, a header out of range; 23, no room for the whole line.
+#[derive(Clone, Copy, Debug, PartialEq, Eq)]
+pub enum Unwritten {
     OutOfRange,
     NoRoom,
 }
@@ -13,8 +15,5 @@ pub enum Written {
 pub fn has_room(len: usize, at: usize, n: usize) -> bool
     ensures { result ≡ leb (at + n) len }
 {
-    if at > len {
-        return false;
-    }
-    n <= len - at
+    at.checked_add(n).is_some_and(|end| end <= len)
 }

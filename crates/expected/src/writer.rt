@@ -7,7 +7,9 @@ ghost use Rattle.digits.specs.Text.{tabbed, Puts};
 ghost use Rattle.digits.specs.Room.{wrote, left, written_number, write_number};
 ghost use Rattle.expected.specs.Expected.{grant_bytes, grants_bytes, shown_bytes, expected_bytes};
 
-use digits::{Written, has_room, put_number, put_tabbed, put_ticket, tabbed_width, width};
+use digits::{
+    Unwritten, Written, has_room, put_number, put_tabbed, put_ticket, tabbed_width, width,
+};
 use parts::{Answer, Grants, number};
 use ticket::{Grant, Ticket};
 
@@ -97,19 +99,7 @@ pub fn expected_fits(
 fn taken(a: Answer) -> bool
     ensures { result ≡ ltb (number_of a) 10 }
 {
-    match a {
-        Answer::Done => true,
-        Answer::Granted => true,
-        Answer::NotYet => true,
-        Answer::NoCore => false,
-        Answer::NoUnit => false,
-        Answer::WrongState => false,
-        Answer::WrongClass => false,
-        Answer::Masked => false,
-        Answer::Stretched => false,
-        Answer::Unsound => false,
-        Answer::OutOfRange => false,
-    }
+    matches!(a, Answer::Done | Answer::Granted | Answer::NotYet)
 }
 
 // A tab and an answer's number, most often of one digit.
@@ -165,8 +155,8 @@ pub fn write_expected(
     ensures { (result ≡ wrote out.old at (expected_bytes step answer ticket grants)) × (out.new ≡ left out.old at (expected_bytes step answer ticket grants)) × (written_number result ≡ write_number true out.old at (expected_bytes step answer ticket grants)) }
 {
     if expected_fits(out.len(), at, step, answer, ticket, grants) {
-        Written::Next(put_expected(out, at, step, answer, ticket, grants))
+        Ok(put_expected(out, at, step, answer, ticket, grants))
     } else {
-        Written::NoRoom
+        Err(Unwritten::NoRoom)
     }
 }

@@ -30,8 +30,8 @@ use Rattle.headers.specs.declared.reading.HeaderLine.{HeaderLine}
 use Rattle.headers.specs.declared.reading.HeaderLine.TheVariants.{Header, BadHeader as NoHeader, Unfinished as CutHeader}
 use Rattle.lines.specs.declared.reading.StepLine.{StepLine}
 use Rattle.lines.specs.declared.reading.StepLine.TheVariants.{Line, Finished as Nothing, Malformed as NoStep, Unfinished as Cut}
-use Rattle.digits.specs.declared.room.Written.{Written}
-use Rattle.digits.specs.declared.room.Written.TheVariants.{Next, OutOfRange, NoRoom as Full}
+use Rattle.digits.specs.Written.{Written}
+use Rattle.digits.specs.Written.{Next, OutOfRange, NoRoom as Full}
 use Rattle.stops.specs.Run.{steps_most}
 use Rattle.stops.specs.Due.{due, line_due}
 use Rattle.walks.specs.Walk.{Ended}

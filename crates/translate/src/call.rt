@@ -9,7 +9,7 @@ ghost use Rattle.calls.specs.Placed.{run_at, stopped_at};
 
 use block::{Table, gathered, gives_way, nexts_of, rows_of, unit_with};
 use building::build;
-use digits::Written;
+use digits::Unwritten;
 use headers::HeaderLine;
 use parts::{Counts, dequeues};
 use places::{core_place, other_place, unit_place};
@@ -179,15 +179,15 @@ fn from_header(run: Run, script: &[u8], out: &mut [u8]) -> Stopped
     match script::read_header(script, place) {
         HeaderLine::Header(counts, counter, next) => {
             match writing::write_opening(out, wrote, counts, counter) {
-                Written::Next(w) => {
+                Ok(w) => {
                     let opened = fresh_run(next, w, counts, counter, done);
                     step_lines(opened, true, script, out)
                 }
-                Written::OutOfRange => Stopped {
+                Err(Unwritten::OutOfRange) => Stopped {
                     run,
                     why: Stop::BadHeader,
                 },
-                Written::NoRoom => Stopped {
+                Err(Unwritten::NoRoom) => Stopped {
                     run,
                     why: Stop::NoRoom,
                 },

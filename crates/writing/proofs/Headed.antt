@@ -6,7 +6,7 @@ use Rattle.ticket.specs.declared.kinds.Ticket.{Ticket}
 use Rattle.parts.specs.Range.{in_range}
 use Rattle.parts.specs.declared.kinds.Counts.{Counts}
 use Rattle.digits.specs.Room.{written_number, write_number}
-use Rattle.digits.specs.declared.room.Written.{Written}
+use Rattle.digits.specs.Written.{Written}
 use Rattle.digits.proofs.Numbers.{numbered}
 use Rattle.writing.specs.Writing.{header_bytes, wrote_header, left_header}
 

@@ -10,8 +10,8 @@ use Rattle.numbers.specs.Bytes.{end}
 use Rattle.lines.specs.Bytes.{script_letter, output_letter, letter_of}
 use Rattle.digits.specs.Text.{tabbed}
 use Rattle.digits.specs.Room.{wrote, left}
-use Rattle.digits.specs.declared.room.Written.{Written}
-use Rattle.digits.specs.declared.room.Written.TheVariants.{OutOfRange}
+use Rattle.digits.specs.Written.{Written}
+use Rattle.digits.specs.Written.{OutOfRange}
 
 -- each number behind a tab, and the line's end
 abbrev pub fields : List ℕ → List ℕ

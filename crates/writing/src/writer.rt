@@ -8,7 +8,7 @@ ghost use Rattle.digits.specs.Text.{Puts};
 ghost use Rattle.digits.specs.Room.{wrote, left, written_number, write_number};
 ghost use Rattle.writing.specs.Writing.{lettered, lettered2, step_bytes, header_bytes, script_header, output_header, wrote_header, left_header};
 
-use digits::{Written, has_room, put_tabbed, tabbed_width};
+use digits::{Unwritten, Written, has_room, put_tabbed, tabbed_width};
 use parts::{Counts, Profile, Step, in_range};
 use ticket::{CoreNo, Ticket, UnitNo};
 
@@ -28,9 +28,9 @@ fn write_lettered(out: &mut [u8], at: usize, letter: u8, k: CoreNo) -> Written
     ensures { (result ≡ wrote out.old at (lettered letter k.0)) × (out.new ≡ left out.old at (lettered letter k.0)) }
 {
     if has_room(out.len(), at, tabbed_width(k.0) + 2) {
-        Written::Next(put_lettered(out, at, letter, k))
+        Ok(put_lettered(out, at, letter, k))
     } else {
-        Written::NoRoom
+        Err(Unwritten::NoRoom)
     }
 }
 
@@ -51,9 +51,9 @@ fn write_lettered2(out: &mut [u8], at: usize, letter: u8, k: CoreNo, u: UnitNo) 
     ensures { (result ≡ wrote out.old at (lettered2 letter k.0 u.0)) × (out.new ≡ left out.old at (lettered2 letter k.0 u.0)) }
 {
     if has_room(out.len(), at, tabbed_width(k.0) + tabbed_width(u.0) + 2) {
-        Written::Next(put_lettered2(out, at, letter, k, u))
+        Ok(put_lettered2(out, at, letter, k, u))
     } else {
-        Written::NoRoom
+        Err(Unwritten::NoRoom)
     }
 }
 
@@ -84,12 +84,12 @@ fn write_headed(out: &mut [u8], at: usize, letter: u8, counts: Counts, counter: 
     ensures { (result ≡ wrote_header out.old at letter counts counter) × (out.new ≡ left_header out.old at letter counts counter) }
 {
     if !in_range(counts) {
-        return Written::OutOfRange;
+        return Err(Unwritten::OutOfRange);
     }
     if has_room(out.len(), at, header_width(counts, counter)) {
-        Written::Next(put_header(out, at, letter, counts, counter))
+        Ok(put_header(out, at, letter, counts, counter))
     } else {
-        Written::NoRoom
+        Err(Unwritten::NoRoom)
     }
 }
 

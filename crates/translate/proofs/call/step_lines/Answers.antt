@@ -31,7 +31,7 @@ use Rattle.block.proofs.InPlace.{core_in, unit_in_lem, other_in, counted, grante
 use Rattle.block.proofs.GivingWay.{Ready, way_asked, way_calm, drop_asks, ready_dropped, ready_still, in_place_apart, dropped_here, kept_here}
 use Rattle.block.proofs.Rows.{rows_long, nexts_long, gathered_back, Put, puts_light, puts_again, Back, back_both, back_none, gathered_stepped}
 use Rattle.expected.specs.Expected.{expected_bytes}
-use Rattle.digits.specs.declared.room.Written.TheVariants.{NoRoom}
+use Rattle.digits.specs.Written.{NoRoom}
 use Rattle.digits.proofs.Pasting.{kept, refused}
 use Rattle.calls.specs.Call.{call}
 use Rattle.calls.specs.Placed.{run_at, stopped_at}
