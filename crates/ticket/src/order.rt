@@ -4,6 +4,7 @@ ghost use Rattle.ticket.specs.Kinds.{ticket};
 ghost use Rattle.ticket.specs.Order.{behind, compare, after};
 
 use crate::kinds::Ticket;
+use std::fmt::{self, Display, Formatter, Write};
 
 // What the first of two tickets is, seen from the second.
 #[derive(Clone, Copy)]
@@ -13,6 +14,18 @@ pub enum Comparison {
     Same,
     // Exactly half the circle apart: neither is older, and neither younger.
     Opposite,
+}
+
+// Its word, as programs write it.
+impl Display for Comparison {
+    fn fmt<W: Write>(&self, f: &mut Formatter<W>) -> fmt::Result {
+        f.write_str(match self {
+            Comparison::Older => "older",
+            Comparison::Younger => "younger",
+            Comparison::Same => "same",
+            Comparison::Opposite => "opposite",
+        })
+    }
 }
 
 // How far `b` lies behind `a`: their difference, cut to sixteen bits.
