@@ -1,3 +1,4 @@
 pub mod Refusals
 pub mod Apart
+pub mod Mapped
 pub mod Determined

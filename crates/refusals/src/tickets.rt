@@ -11,53 +11,29 @@ use ticket::{Comparison, Ticket, compare};
 pub fn is_live(c: Core) -> bool
     ensures { result ≡ live c }
 {
-    let s = c.state;
-    parts::is_live(s)
+    parts::is_live(c.state)
 }
 
 // Seam: which cores' tickets are live.
 pub fn lives_of(all: [Core; CORES]) -> [bool; CORES]
     ensures { result ≡ lives_of all }
 {
-    let mut lives = [false; CORES];
-    let mut k = 0;
-    while k < CORES {
-        let c = all[k];
-        lives[k] = is_live(c);
-        k += 1;
-    }
-    lives
+    all.map(is_live)
 }
 
 // Seam: the cores' own tickets.
 pub fn owns_of(all: [Core; CORES]) -> [u16; CORES]
     ensures { result ≡ owns_of all }
 {
-    let mut owns = [0; CORES];
-    let mut k = 0;
-    while k < CORES {
-        let c = all[k];
-        let own = c.own;
-        owns[k] = own.0;
-        k += 1;
-    }
-    owns
+    all.map(|c| c.own.0)
 }
 
 // Whether a ticket that compares so with the counter lies 32,768 or more behind it.
 fn far(x: Comparison) -> bool
     ensures { result ≡ far x }
 {
-    match x {
-        // It lies 1 to 32,767 behind.
-        Comparison::Older => false,
-        // It lies 32,769 or more behind, and reads as one still to come.
-        Comparison::Younger => true,
-        // It is what the counter shows, and lies 0 behind. In a sound table this is not met.
-        Comparison::Same => false,
-        // It lies 32,768 behind.
-        Comparison::Opposite => true,
-    }
+    // A younger one lies 32,769 or more behind, and reads as one still to come; an opposite one lies 32,768 behind.
+    matches!(x, Comparison::Younger | Comparison::Opposite)
 }
 
 // 15: of the first n cores some ticket is live and lies half the circle or more behind the counter. All are looked at, without a branch, so
@@ -67,12 +43,8 @@ fn stretched(n: usize, counter: Ticket, lives: &[bool], owns: &[u16]) -> bool
     ensures { result ≡ stretched_by counter lives.now owns.now n }
 {
     let mut any = false;
-    let mut k = 0;
-    while k < n {
-        let live = lives[k];
-        let own = owns[k];
-        any = any | (live & far(compare(Ticket(own), counter)));
-        k += 1;
+    for k in 0..n {
+        any |= lives[k] & far(compare(Ticket(owns[k]), counter));
     }
     any
 }
@@ -81,14 +53,10 @@ fn stretched(n: usize, counter: Ticket, lives: &[bool], owns: &[u16]) -> bool
 fn asks(s: Step, c: Core) -> bool
     ensures { result ≡ asks s c }
 {
-    let z = c.state;
     match s {
         Step::R(_, _) => true,
-        Step::N(_, _) => false,
-        Step::P(_) => false,
-        Step::I(_) => false,
-        Step::C(_) => is_dropped(z),
-        Step::L(_) => false,
+        Step::C(_) => is_dropped(c.state),
+        Step::N(_, _) | Step::P(_) | Step::I(_) | Step::L(_) => false,
     }
 }
 

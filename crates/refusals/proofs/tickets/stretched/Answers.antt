@@ -2,7 +2,7 @@ use Rattle.std.proofs.Common.{ℕ, ◌≡◌, ◌+◌, Bool, ◌&&◌, ◌||◌,
 use Rattle.ticket.specs.Order.{compare}
 use Rattle.ticket.specs.declared.kinds.Ticket.{Ticket}
 use Rattle.ticket.specs.declared.order.Comparison.{Comparison}
-use Rattle.parts.proofs.Folds.{none, finished}
+use Rattle.parts.proofs.Folds.{none}
 use Rattle.parts.proofs.Loops.{some_more}
 use Rattle.refusals.specs.Judge.{far}
 use Rattle.refusals.specs.Tickets.{old_at, stretched_by}
@@ -22,6 +22,3 @@ loop-k-init c = search (none, rules)
 
 pub loop-k-preserved : goal.loop-k-preserved
 loop-k-preserved c = search (one_more, rules)
-
-pub returns : goal.returns
-returns c = search (finished, rules)

@@ -1,0 +1,10 @@
+use Rattle.std.proofs.Common.{◌≡◌, rules, length}
+use Rattle.parts.specs.Parts.{cores, idle}
+use Rattle.refusals.specs.Tickets.{own_in}
+use Rattle.refusals.proofs.Mapped.{mapped}
+use Rattle.refusals.proofs.tickets.owns_of.Goals as goal
+
+pub returns : goal.returns
+returns c =
+    let long : length c.args.all ≡ cores = search rules in
+    mapped _ own_in (λ p q x y k. search rules) idle _ c.args.all _ cores long c.map.ensures.items
