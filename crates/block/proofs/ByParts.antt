@@ -38,8 +38,7 @@ use Rattle.refusals.specs.Verdict.{Allowed, Refused}
 use Rattle.settling.specs.Line.{in_line, next, stored, won}
 use Rattle.settling.specs.Settle.{enter, carry, changed}
 use Rattle.settling.specs.declared.settle.Change.{Change}
-use Rattle.settling.specs.declared.line.Best.{Best}
-use Rattle.settling.specs.declared.line.Best.TheVariants.{Nobody}
+use Rattle.settling.specs.Best.{Best, Nobody}
 use Rattle.effects.specs.Effect.{makes, marked_away, interrupt, go_on, inherit, wait, step_effect}
 use Rattle.effects.specs.declared.kinds.Move.{Move}
 use Rattle.effects.specs.declared.kinds.Move.TheVariants.{Enter, GiveUp}

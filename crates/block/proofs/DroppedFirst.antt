@@ -35,8 +35,7 @@ use Rattle.settling.specs.Settle.{given}
 use Rattle.settling.specs.Shown.{shown_as, next_of, shown, same, shows_next_lem}
 use Rattle.settling.specs.Dropping.{dropping, away_as, drop_away}
 use Rattle.settling.specs.InFront.{InOrder}
-use Rattle.settling.specs.declared.line.Best.{Best}
-use Rattle.settling.specs.declared.line.Best.TheVariants.{Nobody, Won}
+use Rattle.settling.specs.Best.{Best, Nobody, Won}
 use Rattle.settling.specs.declared.dropping.Dropping.{Dropping}
 use Rattle.refusals.specs.Judge.{judge}
 use Rattle.refusals.specs.Verdict.{Verdict}

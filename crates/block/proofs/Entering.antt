@@ -25,8 +25,7 @@ use Rattle.settling.specs.Line.{flags, in_line, next, stored}
 use Rattle.settling.specs.Pairs.{is_younger}
 use Rattle.settling.specs.Shown.{shown_as, shown, shows_next_lem}
 use Rattle.settling.specs.Settle.{becomes, compared, is_next, enter, passed, leave, carry, given, changed}
-use Rattle.settling.specs.declared.line.Best.{Best}
-use Rattle.settling.specs.declared.line.Best.TheVariants.{Nobody, Won}
+use Rattle.settling.specs.Best.{Best, Nobody, Won}
 use Rattle.parts.proofs.Along.{same_or_not}
 use Rattle.parts.proofs.Bools.{clash}
 use Rattle.parts.proofs.Folds.{at_some, some_none, count_some, count_unique, none_count}

@@ -27,8 +27,7 @@ use Rattle.settling.specs.Settle.{passed_to_lem}
 use Rattle.settling.specs.Dropping.{away_as, drop_away, showing_next}
 use Rattle.settling.specs.InFront.{InOrder}
 use Rattle.settling.specs.declared.dropping.Dropping.{Dropping}
-use Rattle.settling.specs.declared.line.Best.{Best}
-use Rattle.settling.specs.declared.line.Best.TheVariants.{Nobody, Won}
+use Rattle.settling.specs.Best.{Best, Nobody, Won}
 use Rattle.plan.specs.Plan.{part, plan_step}
 use Rattle.plan.specs.declared.planning.Part.{Part}
 use Rattle.plan.specs.declared.planning.Plan.{Plan}

@@ -26,8 +26,7 @@ use Rattle.parts.specs.declared.kinds.Register.{Register}
 use Rattle.parts.specs.declared.kinds.State.{State}
 use Rattle.parts.specs.declared.kinds.State.TheVariants.{Idle, Waiting, Holding, WaitingSecond, HoldingBoth, Away, Marked, Dropped}
 use Rattle.settling.specs.Line.{in_line, next}
-use Rattle.settling.specs.declared.line.Best.{Best}
-use Rattle.settling.specs.declared.line.Best.TheVariants.{Nobody, Won}
+use Rattle.settling.specs.Best.{Best, Nobody, Won}
 use Rattle.refusals.specs.Judge.{far, old, stretched}
 use Rattle.soundness.specs.Sound.{half_behind_lem, reads_older_lem}
 use Rattle.refusals.specs.Verdict.{Allowed}

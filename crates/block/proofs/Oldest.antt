@@ -25,7 +25,7 @@ use Rattle.parts.specs.declared.kinds.Core.{Core}
 use Rattle.parts.specs.declared.kinds.State.{State}
 use Rattle.parts.specs.declared.kinds.State.TheVariants.{Idle, Waiting, Holding, WaitingSecond, HoldingBoth, Away, Marked, Dropped}
 use Rattle.block.specs.declared.table.Table.{Table}
-use Rattle.settling.specs.declared.line.Best.TheVariants.{Nobody, Won}
+use Rattle.settling.specs.Best.{Nobody, Won}
 use Rattle.parts.proofs.Bools.{and_left, or_cases, clash}
 use Rattle.parts.proofs.Folds.{some_at, count_unique}
 use Rattle.parts.proofs.Along.{same_or_not}

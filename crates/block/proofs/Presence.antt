@@ -28,8 +28,7 @@ use Rattle.parts.specs.declared.kinds.State.{State}
 use Rattle.parts.specs.declared.kinds.State.TheVariants.{Idle, Waiting, Holding, WaitingSecond, HoldingBoth, Away, Marked, Dropped}
 use Rattle.settling.specs.Line.{flags, in_line, next, stored}
 use Rattle.settling.specs.Dropping.{away_as}
-use Rattle.settling.specs.declared.line.Best.{Best}
-use Rattle.settling.specs.declared.line.Best.TheVariants.{Nobody, Won}
+use Rattle.settling.specs.Best.{Best, Nobody, Won}
 use Rattle.refusals.specs.Verdict.{Allowed}
 use Rattle.effects.specs.Effect.{request, interrupt, enter_again, go_on, come_back}
 use Rattle.effects.specs.declared.kinds.Effect.{Effect}

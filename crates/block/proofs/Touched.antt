@@ -15,8 +15,7 @@ use Rattle.parts.specs.declared.answer.Answer.{Answer}
 use Rattle.parts.specs.declared.answer.Answer.TheVariants.{Done}
 use Rattle.parts.specs.declared.answer.Grants.TheVariants.{None}
 use Rattle.settling.specs.Line.{flags, next, won}
-use Rattle.settling.specs.declared.line.Best.{Best}
-use Rattle.settling.specs.declared.line.Best.TheVariants.{Nobody}
+use Rattle.settling.specs.Best.{Best, Nobody}
 use Rattle.settling.specs.Shown.{shown}
 use Rattle.settling.specs.Dropping.{dropping, away_next}
 use Rattle.settling.specs.Settle.{given, changed}

@@ -9,8 +9,7 @@ use Rattle.settling.specs.Line.{flags, next, won}
 use Rattle.settling.specs.Shown.{shown}
 use Rattle.settling.specs.Dropping.{drop_away}
 use Rattle.parts.specs.declared.kinds.LockUnit.{LockUnit}
-use Rattle.settling.specs.declared.line.Best.{Best}
-use Rattle.settling.specs.declared.line.Best.TheVariants.{Nobody, Won}
+use Rattle.settling.specs.Best.{Best, Nobody, Won}
 use Rattle.settling.specs.declared.dropping.Dropping.{Dropping}
 use Rattle.block.specs.Table.{unit_of, register_of, with_unit, with_register}
 use Rattle.block.specs.declared.table.Table.{Table}

@@ -201,8 +201,8 @@ fn heir(own: Ticket, best: Best) -> Ticket
     ensures { result ≡ heir own best }
 {
     match best {
-        Best::Nobody => own,
-        Best::Won(_, m) => { if heritable(compare(m, own)) { m } else { own } }
+        None => own,
+        Some((_, m)) => { if heritable(compare(m, own)) { m } else { own } }
     }
 }
 

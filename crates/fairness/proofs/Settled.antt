@@ -21,8 +21,7 @@ use Rattle.block.specs.Settle.{winner, give, show, Settling, grant_next, settle}
 use Rattle.parts.specs.declared.kinds.Register.{Register}
 use Rattle.parts.specs.declared.kinds.LockUnit.{LockUnit}
 use Rattle.block.specs.declared.table.Table.{Table}
-use Rattle.settling.specs.declared.line.Best.{Best}
-use Rattle.settling.specs.declared.line.Best.TheVariants.{Nobody, Won}
+use Rattle.settling.specs.Best.{Best, Nobody, Won}
 use Rattle.block.proofs.Access.{unit_same, shaped_register}
 use Rattle.parts.proofs.Along.{same_or_not, to_last, along}
 use Rattle.settling.proofs.Picking.{next_won}

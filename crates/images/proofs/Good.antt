@@ -14,8 +14,7 @@ use Rattle.parts.proofs.Bools.{and_left, and_right}
 use Rattle.parts.proofs.Folds.{every_at}
 use Rattle.settling.specs.Line.{flags, next}
 use Rattle.settling.specs.Shown.{shown_as, next_of, shows_next_lem}
-use Rattle.settling.specs.declared.line.Best.{Best}
-use Rattle.settling.specs.declared.line.Best.TheVariants.{Nobody, Won}
+use Rattle.settling.specs.Best.{Best, Nobody, Won}
 use Rattle.words.specs.Word.{packable, word_of, is_good}
 use Rattle.images.specs.Image.{per_unit, unit_count, word_count, unit_in, waiter, register_at, word_at, good_words, unit_of, next_agrees, good_image, writable}
 

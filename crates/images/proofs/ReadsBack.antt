@@ -19,7 +19,7 @@ use Rattle.parts.proofs.Bools.{and_both}
 use Rattle.parts.proofs.Folds.{at_every, every_cong}
 use Rattle.parts.proofs.Along.{up_to_cong}
 use Rattle.settling.specs.Shown.{shown_as, next_of, same, shows_next_lem}
-use Rattle.settling.specs.declared.line.Best.{Best}
+use Rattle.settling.specs.Best.{Best}
 use Rattle.settling.proofs.NextInLine.{next_cong, flags_cong, shown_shows, stores}
 use Rattle.words.specs.Word.{packable, word_of, register_of, is_good}
 use Rattle.words.proofs.Good.{narrow, good_packable}

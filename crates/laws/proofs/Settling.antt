@@ -19,8 +19,7 @@ use Rattle.block.specs.Settle.{winner, give, Settling, with_dropping, drop_at, g
 use Rattle.settling.specs.Line.{flags, in_line, next}
 use Rattle.settling.specs.Dropping.{dropping, away_as, away_next, drop_away}
 use Rattle.settling.specs.Shown.{shows_next_lem}
-use Rattle.settling.specs.declared.line.Best.{Best}
-use Rattle.settling.specs.declared.line.Best.TheVariants.{Nobody, Won}
+use Rattle.settling.specs.Best.{Best, Nobody, Won}
 use Rattle.block.specs.Sound as S
 use Rattle.block.specs.Parts.{Sound}
 use Rattle.parts.specs.declared.kinds.Register.{Register}

@@ -10,7 +10,7 @@ use Rattle.block.specs.Table.{unit_of}
 use Rattle.settling.specs.Line.{flags, in_line, next}
 use Rattle.parts.specs.declared.kinds.LockUnit.{LockUnit}
 use Rattle.block.specs.declared.table.Table.{Table}
-use Rattle.settling.specs.declared.line.Best.TheVariants.{Won}
+use Rattle.settling.specs.Best.{Won}
 use Rattle.parts.specs.declared.answer.Grants.{Grants}
 use Rattle.parts.specs.declared.answer.Grants.TheVariants.{None, One, Two}
 

@@ -29,8 +29,7 @@ use Rattle.settling.specs.Line.{stored, won, Within}
 use Rattle.settling.specs.Pairs.{is_younger}
 use Rattle.settling.specs.Shown.{shown_as}
 use Rattle.settling.specs.Settle.{becomes, compared, is_next, enter, passed, carry}
-use Rattle.settling.specs.declared.line.Best.{Best}
-use Rattle.settling.specs.declared.line.Best.TheVariants.{Nobody, Won}
+use Rattle.settling.specs.Best.{Best, Nobody, Won}
 use Rattle.settling.specs.declared.settle.Change.{Change}
 use Rattle.settling.proofs.NextInLine.{stored_within}
 use Rattle.effects.specs.Effect.{step_effect}

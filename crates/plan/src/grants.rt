@@ -12,8 +12,8 @@ pub(crate) fn one_grant(u: UnitNo, w: Best) -> Grants
     ensures { result ≡ packed (won u.0 w) }
 {
     match w {
-        Best::Nobody => Grants::None,
-        Best::Won(k, _) => Grants::One(Grant::of(u, k)),
+        None => Grants::None,
+        Some((k, _)) => Grants::One(Grant::of(u, k)),
     }
 }
 
@@ -22,10 +22,10 @@ pub(crate) fn two_grants(u: UnitNo, w: Best, v: UnitNo, x: Best) -> Grants
     ensures { result ≡ packed (won u.0 w ++ won v.0 x) }
 {
     match w {
-        Best::Nobody => one_grant(v, x),
-        Best::Won(k, _) => match x {
-            Best::Nobody => Grants::One(Grant::of(u, k)),
-            Best::Won(j, _) => Grants::Two(Grant::of(u, k), Grant::of(v, j)),
+        None => one_grant(v, x),
+        Some((k, _)) => match x {
+            None => Grants::One(Grant::of(u, k)),
+            Some((j, _)) => Grants::Two(Grant::of(u, k), Grant::of(v, j)),
         },
     }
 }

@@ -27,8 +27,7 @@ use Rattle.parts.specs.declared.kinds.Profile.{Profile}
 use Rattle.parts.specs.declared.kinds.Profile.TheVariants.{T, D}
 use Rattle.parts.specs.declared.kinds.Register.{Register}
 use Rattle.settling.specs.Line.{next}
-use Rattle.settling.specs.declared.line.Best.{Best}
-use Rattle.settling.specs.declared.line.Best.TheVariants.{Nobody, Won}
+use Rattle.settling.specs.Best.{Best, Nobody, Won}
 use Rattle.refusals.specs.Verdict.{Verdict}
 use Rattle.refusals.specs.Verdict.{Allowed, Refused}
 use Rattle.effects.specs.Effect.{interrupt, heritable, heir}

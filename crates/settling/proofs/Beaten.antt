@@ -24,7 +24,7 @@ use Rattle.parts.proofs.Folds.{every_at, at_every, some_at, at_some, none_some, 
 use Rattle.settling.specs.Line.{in_line, is_older, older, oldest, chosen, next}
 use Rattle.settling.specs.Pairs.{column, marked, unmarked, lost, loses, judged, all_judged, stays, unbeaten}
 use Rattle.settling.specs.Claims.{ByPairs}
-use Rattle.settling.specs.declared.line.Best.TheVariants.{Nobody, Won}
+use Rattle.settling.specs.Best.{Nobody, Won}
 use Rattle.settling.proofs.Pairing.{over_pairs_lem}
 
 -- Marks

@@ -23,8 +23,7 @@ use Rattle.parts.proofs.Folds.{count_cong, count_change, count_none}
 use Rattle.parts.proofs.Loops.{count_most}
 use Rattle.settling.specs.Line.{flags, in_line, next}
 use Rattle.settling.specs.Dropping.{dropping, away_as, away_next, drop_one, drop_best, drop_next, drop_away}
-use Rattle.settling.specs.declared.line.Best.{Best}
-use Rattle.settling.specs.declared.line.Best.TheVariants.{Nobody, Won}
+use Rattle.settling.specs.Best.{Best, Nobody, Won}
 use Rattle.settling.specs.declared.dropping.Dropping.{Dropping}
 use Rattle.settling.proofs.Picking.{next_won, next_oldest, next_nobody, next_counted}
 use Rattle.settling.proofs.NextInLine.{next_aside, changed_there}

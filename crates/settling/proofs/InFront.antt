@@ -28,8 +28,7 @@ use Rattle.settling.specs.Line.{in_line, is_older, next}
 use Rattle.settling.specs.Shown.{shown_as, shows_next_lem}
 use Rattle.settling.specs.Dropping.{dropping, away_as, drop_one, drop_away, showing_next}
 use Rattle.settling.specs.InFront.{InOrder, changed_to, with_registers, away_at, unless_away, present, before, goes, goes_at, dropped_before}
-use Rattle.settling.specs.declared.line.Best.{Best}
-use Rattle.settling.specs.declared.line.Best.TheVariants.{Nobody, Won}
+use Rattle.settling.specs.Best.{Best, Nobody, Won}
 use Rattle.settling.specs.declared.dropping.Dropping.{Dropping}
 use Rattle.settling.proofs.Picking.{is_older_lem, next_won, next_oldest, next_over, next_nobody, nobody_next}
 use Rattle.settling.proofs.NextInLine.{held_flags}

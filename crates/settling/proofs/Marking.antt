@@ -25,8 +25,7 @@ use Rattle.parts.proofs.Bools.{clash}
 use Rattle.parts.proofs.Folds.{more, none_some}
 use Rattle.settling.specs.Line.{is_older, older, chosen}
 use Rattle.settling.specs.Pairs.{column, is_younger, unmarked, lost, judged, all_judged, stays, unbeaten, Line, lined, overtaken, overtakes, met, kept}
-use Rattle.settling.specs.declared.line.Best.{Best}
-use Rattle.settling.specs.declared.line.Best.TheVariants.{Nobody, Won}
+use Rattle.settling.specs.Best.{Best, Nobody, Won}
 use Rattle.settling.proofs.Beaten.{marks, hit, beaten, column_marks, all_lost, all_whole, column_out}
 use Rattle.settling.proofs.Lining.{by_place, count_less, stood, shown, lined_is}
 

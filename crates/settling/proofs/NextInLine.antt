@@ -32,8 +32,7 @@ use Rattle.settling.specs.Line.{flags, in_line, is_older, older, oldest, chosen,
 use Rattle.settling.specs.Pairs.{is_younger}
 use Rattle.settling.specs.Shown.{shown_as, next_of, shown, agree, same, shows_next_lem}
 use Rattle.settling.specs.Settle.{compared, is_next, passed_to_lem, with_flag, given}
-use Rattle.settling.specs.declared.line.Best.{Best}
-use Rattle.settling.specs.declared.line.Best.TheVariants.{Nobody, Won}
+use Rattle.settling.specs.Best.{Best, Nobody, Won}
 use Rattle.settling.proofs.Picking.{next_won, next_oldest, next_over, next_within, next_alone, ordered}
 
 -- Units with the same registers

@@ -23,8 +23,7 @@ use Rattle.parts.proofs.Along.{same_or_not, to_last, along}
 use Rattle.parts.proofs.Bools.{and_left, and_right, and_both, or_left, or_right, clash}
 use Rattle.parts.proofs.Folds.{every_at, at_every}
 use Rattle.settling.specs.Line.{in_line, is_older, older, oldest, chosen, next, Within}
-use Rattle.settling.specs.declared.line.Best.{Best}
-use Rattle.settling.specs.declared.line.Best.TheVariants.{Nobody, Won}
+use Rattle.settling.specs.Best.{Best, Nobody, Won}
 
 -- the ticket of core j, and that it is in line
 abbrev at : LockUnit → ℕ → ℕ

@@ -12,8 +12,7 @@ use Rattle.parts.specs.declared.kinds.LockUnit.{LockUnit}
 use Rattle.parts.specs.declared.kinds.Register.{Register}
 use Rattle.settling.specs.Line.{in_line, is_older}
 use Rattle.settling.specs.Dropping.{dropping}
-use Rattle.settling.specs.declared.line.Best.{Best}
-use Rattle.settling.specs.declared.line.Best.TheVariants.{Nobody, Won}
+use Rattle.settling.specs.Best.{Best, Nobody, Won}
 use Rattle.settling.specs.declared.dropping.Dropping.{Dropping}
 
 -- the tickets in line lie in one window behind a counter, and no two compare the same

@@ -1,3 +1,4 @@
+pub mod Best
 pub mod Line
 pub mod Pairs
 pub mod Claims

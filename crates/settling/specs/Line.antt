@@ -11,8 +11,7 @@ use Rattle.parts.specs.Parts.{cores, core_no, unit_no, register_in}
 use Rattle.parts.specs.declared.kinds.Register.{Register}
 use Rattle.parts.specs.declared.kinds.Next.{Next}
 use Rattle.parts.specs.declared.kinds.LockUnit.{LockUnit}
-use Rattle.settling.specs.declared.line.Best.{Best}
-use Rattle.settling.specs.declared.line.Best.TheVariants.{Nobody, Won}
+use Rattle.settling.specs.Best.{Best, Nobody, Won}
 
 -- how many flags the first n cores have set at a unit
 abbrev pub flags : ℕ → LockUnit → ℕ

@@ -8,8 +8,7 @@ use Rattle.parts.specs.Fold.{up_to, one}
 use Rattle.parts.specs.Parts.{cores, core_no, register_in}
 use Rattle.parts.specs.declared.kinds.LockUnit.{LockUnit}
 use Rattle.settling.specs.Line.{in_line, is_older, chosen}
-use Rattle.settling.specs.declared.line.Best.{Best}
-use Rattle.settling.specs.declared.line.Best.TheVariants.{Nobody, Won}
+use Rattle.settling.specs.Best.{Best, Nobody, Won}
 
 -- f for each pair of one before j with j, and for each pair below n: one loop around the other
 abbrev pub column : {A : Type 0} → (ℕ → ℕ → A → A) → ℕ → A → A

@@ -12,8 +12,7 @@ use Rattle.parts.specs.declared.kinds.LockUnit.{LockUnit}
 use Rattle.settling.specs.Line.{is_older, next, stored}
 use Rattle.settling.specs.Pairs.{is_younger}
 use Rattle.settling.specs.Shown.{shown_as}
-use Rattle.settling.specs.declared.line.Best.{Best}
-use Rattle.settling.specs.declared.line.Best.TheVariants.{Nobody, Won}
+use Rattle.settling.specs.Best.{Best, Nobody, Won}
 use Rattle.settling.specs.declared.settle.Change.{Change}
 
 -- the core's register becomes r, the unit shows v, and w gets its flag; if p, the pairs are gone through for who is next

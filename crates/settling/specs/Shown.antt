@@ -5,8 +5,7 @@ use Rattle.parts.specs.Parts.{core_no, next_in_line, showing}
 use Rattle.parts.specs.declared.kinds.Next.{Next}
 use Rattle.parts.specs.declared.kinds.LockUnit.{LockUnit}
 use Rattle.settling.specs.Line.{flags, next}
-use Rattle.settling.specs.declared.line.Best.{Best}
-use Rattle.settling.specs.declared.line.Best.TheVariants.{Nobody, Won}
+use Rattle.settling.specs.Best.{Best, Nobody, Won}
 
 -- what a unit shows, by who is next in line and whether a flag is set
 abbrev pub shown_as : Best → Bool → Next

@@ -49,8 +49,8 @@ fn before(first: Best, t: Ticket) -> bool
     ensures { result ≡ before first t }
 {
     match first {
-        Best::Nobody => true,
-        Best::Won(_, w) => is_older(compare(t, w)),
+        None => true,
+        Some((_, w)) => is_older(compare(t, w)),
     }
 }
 

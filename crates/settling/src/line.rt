@@ -4,18 +4,14 @@ ghost use Rattle.parts.specs.Fold.{up_to};
 ghost use Rattle.parts.specs.Parts.{cores};
 ghost use Rattle.settling.specs.Line.{in_line, next, stored};
 ghost use Rattle.settling.specs.Pairs.{kept};
-ghost use Rattle.settling.specs.declared.line.Best.TheVariants.{Nobody, Won};
+ghost use Rattle.settling.specs.Best.{Nobody, Won};
 
 use crate::pairs::column;
 use parts::{CORES, LockUnit, Next, Register};
 use ticket::{CoreNo, Ticket};
 
 // The core that is next in line at a unit, and its ticket.
-#[derive(Clone, Copy)]
-pub enum Best {
-    Nobody,
-    Won(CoreNo, Ticket),
-}
+pub type Best = Option<(CoreNo, Ticket)>;
 
 // Seam: who a unit that shows v has next in line. A core that no table has is nobody.
 pub fn stored(v: Next) -> Best
@@ -25,9 +21,9 @@ pub fn stored(v: Next) -> Best
     let k = v.core;
     let i = k.0 as usize;
     if v.valid & (i < CORES) {
-        Best::Won(k, t)
+        Some((k, t))
     } else {
-        Best::Nobody
+        None
     }
 }
 
@@ -42,7 +38,7 @@ pub(crate) fn in_line(r: Register) -> bool
 fn unless(lost: bool, k: CoreNo, t: Ticket, best: Best) -> Best
     ensures { result ≡ cond lost best (Won k t) }
 {
-    if lost { best } else { Best::Won(k, t) }
+    if lost { best } else { Some((k, t)) }
 }
 
 // Of the first c in line, `who` at their places, the one that did not lose.
@@ -50,7 +46,7 @@ fn unbeaten(who: &[u16], line: &[u16], c: usize, lost: &[bool]) -> Best
     requires { (c ≤ length who.now) × (c ≤ length line.now) × (c ≤ length lost.now) }
     ensures { result ≡ up_to (kept who.now line.now lost.now) c Nobody }
 {
-    let mut best = Best::Nobody;
+    let mut best = None;
     let mut a = 0;
     while a < c {
         let k = who[a];

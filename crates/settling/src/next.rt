@@ -13,8 +13,8 @@ pub(crate) fn shown_as(b: Best, held: bool) -> Next
     ensures { result ≡ shown_as b held }
 {
     match b {
-        Best::Nobody => next_in_line(Ticket(0), CoreNo(0), false, held),
-        Best::Won(k, t) => next_in_line(t, k, true, held),
+        None => next_in_line(Ticket(0), CoreNo(0), false, held),
+        Some((k, t)) => next_in_line(t, k, true, held),
     }
 }
 

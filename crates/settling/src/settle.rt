@@ -37,7 +37,7 @@ fn becomes(register: Register, next: Next, winner: Best, repick: bool) -> Change
 pub fn stay(r: Register, v: Next) -> Change
     ensures { result ≡ stay r v }
 {
-    becomes(r, v, Best::Nobody, false)
+    becomes(r, v, None, false)
 }
 
 // Core k, in line with the ticket t, and the one that is next: the older is next.
@@ -45,10 +45,10 @@ fn compared(b: Best, k: CoreNo, t: Ticket) -> Best
     ensures { result ≡ compared b k t }
 {
     match b {
-        Best::Nobody => Best::Won(k, t),
-        Best::Won(_, s) => {
+        None => Some((k, t)),
+        Some((_, s)) => {
             if is_older(compare(t, s)) {
-                Best::Won(k, t)
+                Some((k, t))
             } else {
                 b
             }
@@ -72,14 +72,9 @@ pub fn enter(v: Next, k: CoreNo, t: Ticket) -> Change
     let r = standing(t);
     if v.held {
         let b = compared(stored(v), k, t);
-        becomes(r, shown_as(b, true), Best::Nobody, false)
+        becomes(r, shown_as(b, true), None, false)
     } else {
-        becomes(
-            flagged(r),
-            shown_as(Best::Nobody, true),
-            Best::Won(k, t),
-            false,
-        )
+        becomes(flagged(r), shown_as(None, true), Some((k, t)), false)
     }
 }
 
@@ -88,8 +83,8 @@ fn passed(b: Best) -> Change
     ensures { result ≡ passed b }
 {
     match b {
-        Best::Nobody => becomes(blank(), shown_as(b, false), b, false),
-        Best::Won(_, _) => becomes(blank(), shown_as(Best::Nobody, true), b, true),
+        None => becomes(blank(), shown_as(b, false), b, false),
+        Some(_) => becomes(blank(), shown_as(None, true), b, true),
     }
 }
 
@@ -100,7 +95,7 @@ pub fn leave(r: Register, v: Next, k: CoreNo) -> Change
     if r.flag {
         passed(stored(v))
     } else {
-        becomes(blank(), v, Best::Nobody, is_next(v, k))
+        becomes(blank(), v, None, is_next(v, k))
     }
 }
 
@@ -111,17 +106,12 @@ pub fn carry(v: Next, k: CoreNo, t: Ticket) -> Change
     let r = standing(t);
     let s = v.ticket;
     if !is_next(v, k) {
-        return becomes(
-            r,
-            shown_as(compared(stored(v), k, t), true),
-            Best::Nobody,
-            false,
-        );
+        return becomes(r, shown_as(compared(stored(v), k, t), true), None, false);
     }
     if is_younger(compare(t, s)) {
-        becomes(r, v, Best::Nobody, true)
+        becomes(r, v, None, true)
     } else {
-        becomes(r, shown_as(Best::Won(k, t), true), Best::Nobody, false)
+        becomes(r, shown_as(Some((k, t)), true), None, false)
     }
 }
 
@@ -130,8 +120,8 @@ pub fn passed_to(b: Best, k: CoreNo) -> CoreNo
     ensures { result ≡ passed_to_lem b k }
 {
     match b {
-        Best::Nobody => k,
-        Best::Won(j, _) => j,
+        None => k,
+        Some((j, _)) => j,
     }
 }
 
@@ -140,8 +130,8 @@ pub fn with_flag(r: Register, b: Best) -> Register
     ensures { result ≡ with_flag r b }
 {
     match b {
-        Best::Nobody => r,
-        Best::Won(_, _) => flagged(r),
+        None => r,
+        Some(_) => flagged(r),
     }
 }
 

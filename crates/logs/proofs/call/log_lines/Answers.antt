@@ -18,7 +18,7 @@ use Rattle.refusals.proofs.Apart.{lives_long, owns_long, lives_set, owns_set}
 use Rattle.settling.specs.Line.{Within}
 use Rattle.settling.specs.Settle.{passed_to_lem, repicked}
 use Rattle.settling.specs.declared.dropping.Dropping.{Dropping}
-use Rattle.settling.specs.declared.line.Best.{Best}
+use Rattle.settling.specs.Best.{Best}
 use Rattle.settling.proofs.NextInLine.{passed_within}
 use Rattle.block.specs.Apart.{gathered, rows_of, nexts_of}
 use Rattle.block.specs.PutBack.{put_back}

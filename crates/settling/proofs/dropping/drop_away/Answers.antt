@@ -13,7 +13,7 @@ use Rattle.settling.specs.Shown.{shown_as, shows_next_lem}
 use Rattle.settling.specs.Dropping.{drop_away, showing_next}
 use Rattle.settling.specs.InFront.{InOrder, present, dropped_before}
 use Rattle.settling.specs.declared.dropping.Dropping.{Dropping}
-use Rattle.settling.specs.declared.line.Best.{Best}
+use Rattle.settling.specs.Best.{Best}
 use Rattle.settling.proofs.InFront.{in_front}
 use Rattle.settling.proofs.dropping.drop_away.Goals as goal
 

@@ -11,8 +11,7 @@ use Rattle.parts.specs.Parts.{cores, register_in}
 use Rattle.parts.specs.declared.kinds.LockUnit.{LockUnit}
 use Rattle.settling.specs.Line.{in_line, next}
 use Rattle.settling.specs.Pairs.{Line, lined, overtakes, met, kept}
-use Rattle.settling.specs.declared.line.Best.{Best}
-use Rattle.settling.specs.declared.line.Best.TheVariants.{Nobody}
+use Rattle.settling.specs.Best.{Best, Nobody}
 use Rattle.settling.proofs.Beaten.{picks}
 use Rattle.settling.proofs.Lining.{lined_is, lined_more}
 use Rattle.settling.proofs.Marking.{Marked, marked_none, marked_on, marked_by, picked}

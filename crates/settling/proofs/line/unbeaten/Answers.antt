@@ -6,8 +6,7 @@ use mathlib.Core.Path.{◌≡◌}
 use Rattle.parts.specs.Fold.{up_to}
 use Rattle.parts.proofs.Folds.{none, more, finished}
 use Rattle.settling.specs.Pairs.{kept}
-use Rattle.settling.specs.declared.line.Best.{Best}
-use Rattle.settling.specs.declared.line.Best.TheVariants.{Nobody}
+use Rattle.settling.specs.Best.{Best, Nobody}
 use Rattle.settling.proofs.line.unbeaten.Goals as goal
 
 goes_on :

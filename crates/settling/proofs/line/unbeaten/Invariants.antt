@@ -4,7 +4,7 @@ use mathlib.Core.Path.{◌≡◌}
 use lib.ListN.{length}
 use Rattle.parts.specs.Fold.{up_to}
 use Rattle.settling.specs.Pairs.{kept}
-use Rattle.settling.specs.declared.line.Best.TheVariants.{Nobody}
+use Rattle.settling.specs.Best.{Nobody}
 use Rattle.settling.proofs.line.unbeaten.Given as goal
 
 abbrev pub invariant-loop-a : goal.invariant-loop-a

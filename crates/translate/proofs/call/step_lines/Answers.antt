@@ -15,7 +15,7 @@ use Rattle.refusals.specs.Tickets.{own_in, lives_of, owns_of}
 use Rattle.refusals.proofs.Apart.{lives_long, owns_long, lives_set, owns_set}
 use Rattle.settling.specs.Line.{Within}
 use Rattle.settling.specs.Settle.{passed_to_lem, repicked}
-use Rattle.settling.specs.declared.line.Best.{Best}
+use Rattle.settling.specs.Best.{Best}
 use Rattle.settling.specs.declared.dropping.Dropping.{Dropping}
 use Rattle.settling.proofs.NextInLine.{passed_within}
 use Rattle.block.specs.Apart.{gathered}

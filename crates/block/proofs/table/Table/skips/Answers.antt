@@ -2,7 +2,7 @@
 use mathlib.Core.Path.{◌∙◌, ap}
 use Rattle.ticket.specs.declared.kinds.CoreNo.{CoreNo}
 use Rattle.settling.specs.Settle.{passed_to_lem}
-use Rattle.settling.specs.declared.line.Best.{Best}
+use Rattle.settling.specs.Best.{Best}
 use Rattle.block.specs.Skipping.{gives_way}
 use Rattle.block.specs.Table.{core_of, register_of}
 use Rattle.block.proofs.Held.{held}
