@@ -5,7 +5,7 @@ ghost use Rattle.parts.specs.Answer.{whose, number_of};
 use ticket::{CoreNo, Grant, UnitNo};
 
 // A step of a script, by its letter.
-#[derive(Clone, Copy)]
+#[derive(Clone, Copy, Debug, PartialEq, Eq)]
 pub enum Step {
     // Asks for a unit.
     R(CoreNo, UnitNo),
@@ -22,7 +22,7 @@ pub enum Step {
 }
 
 // What a step, or building a table, is answered.
-#[derive(Clone, Copy)]
+#[derive(Clone, Copy, Debug, PartialEq, Eq)]
 pub enum Answer {
     // 0: the step is done.
     Done,
@@ -49,7 +49,7 @@ pub enum Answer {
 }
 
 // The grants of a step, by rising unit.
-#[derive(Clone, Copy)]
+#[derive(Clone, Copy, Debug, PartialEq, Eq)]
 pub enum Grants {
     None,
     One(Grant),
@@ -61,12 +61,8 @@ pub fn whose(s: Step) -> CoreNo
     ensures { result ≡ whose s }
 {
     match s {
-        Step::R(k, _) => k,
-        Step::N(k, _) => k,
-        Step::P(k) => k,
-        Step::I(k) => k,
-        Step::C(k) => k,
-        Step::L(k) => k,
+        Step::R(k, _) | Step::N(k, _) => k,
+        Step::P(k) | Step::I(k) | Step::C(k) | Step::L(k) => k,
     }
 }
 

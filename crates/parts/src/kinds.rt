@@ -12,7 +12,7 @@ pub const PER_CLASS: usize = 8;
 pub const UNITS: usize = 16;
 
 // A unit's register for one core, with its grant flag.
-#[derive(Clone, Copy)]
+#[derive(Clone, Copy, Debug, PartialEq, Eq)]
 pub struct Register {
     pub ticket: Ticket,
     pub valid: bool,
@@ -22,7 +22,7 @@ pub struct Register {
 // Who is next in line at a unit, with its ticket, if anyone is (if not, both are 0); and whether a flag of the unit
 // is set, so that a core that enters need look at nothing else. With its last two bytes a unit's size is a multiple of
 // eight, and it is copied in eights.
-#[derive(Clone, Copy)]
+#[derive(Clone, Copy, Debug, PartialEq, Eq)]
 pub struct Next {
     pub ticket: Ticket,
     pub core: CoreNo,
@@ -33,14 +33,14 @@ pub struct Next {
 }
 
 // A lock unit: a register for each core, and the one that shows the best waiter.
-#[derive(Clone, Copy)]
+#[derive(Clone, Copy, Debug, PartialEq, Eq)]
 pub struct LockUnit {
     pub registers: [Register; CORES],
     pub next: Next,
 }
 
 // Where a core stands.
-#[derive(Clone, Copy)]
+#[derive(Clone, Copy, Debug, PartialEq, Eq)]
 pub enum State {
     // No ticket.
     Idle,
@@ -61,13 +61,13 @@ pub enum State {
 }
 
 // One byte with one value, which makes a size even.
-#[derive(Clone, Copy)]
+#[derive(Clone, Copy, Debug, PartialEq, Eq)]
 pub enum Fill {
     Blank,
 }
 
 // A core. What its state does not speak of is blank: ticket 0, unit 0.
-#[derive(Clone, Copy)]
+#[derive(Clone, Copy, Debug, PartialEq, Eq)]
 pub struct Core {
     pub own: Ticket,
     pub carried: Ticket,
@@ -80,7 +80,7 @@ pub struct Core {
 }
 
 // By which rules a block works.
-#[derive(Clone, Copy)]
+#[derive(Clone, Copy, Debug, PartialEq, Eq)]
 pub enum Profile {
     // The two-stage algorithm with inheritance.
     T,
@@ -90,7 +90,7 @@ pub enum Profile {
 
 // How many cores, first-class units and second-class units a table has, and its profile: what its header gives and
 // no step changes.
-#[derive(Clone, Copy)]
+#[derive(Clone, Copy, Debug, PartialEq, Eq)]
 pub struct Counts {
     pub cores: u16,
     pub first: u16,

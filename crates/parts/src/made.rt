@@ -31,12 +31,7 @@ pub fn standing(t: Ticket) -> Register
 pub fn flagged(r: Register) -> Register
     ensures { result ≡ flagged r }
 {
-    let t = r.ticket;
-    Register {
-        ticket: t,
-        valid: r.valid,
-        flag: true,
-    }
+    Register { flag: true, ..r }
 }
 
 // A next in line, by what it shows.
@@ -79,9 +74,7 @@ pub fn registered(x: LockUnit, k: CoreNo, r: Register) -> LockUnit
 pub fn showing(x: LockUnit, v: Next) -> LockUnit
     ensures { result ≡ showing x v }
 {
-    let mut y = x;
-    y.next = v;
-    y
+    LockUnit { next: v, ..x }
 }
 
 // A core without a ticket.
@@ -116,6 +109,5 @@ pub fn core(own: Ticket, carried: Ticket, first: UnitNo, second: UnitNo, state: 
 pub fn dropped(c: Core) -> Core
     ensures { result ≡ dropped c }
 {
-    let first = c.first;
-    core(Ticket(0), Ticket(0), first, UnitNo(0), State::Dropped)
+    core(Ticket(0), Ticket(0), c.first, UnitNo(0), State::Dropped)
 }

@@ -9,10 +9,7 @@ use crate::state::{is_away, is_dropped, is_marked, two_stage};
 pub fn dequeues(p: Profile) -> bool
     ensures { result ≡ dequeues p }
 {
-    match p {
-        Profile::T => false,
-        Profile::D => true,
-    }
+    p == Profile::D
 }
 
 // Whether the profile has the state: in T nobody is marked or dropped, in D nobody has a second unit or keeps a ticket

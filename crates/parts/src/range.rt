@@ -15,10 +15,8 @@ pub fn in_range(c: Counts) -> bool
     let second = c.second as usize;
     let p = c.profile;
     let classed = !dequeues(p) | (second == 0);
-    (1 <= cores)
-        & (cores <= CORES)
-        & (1 <= first)
-        & (first <= PER_CLASS)
+    (1..=CORES).contains(&cores)
+        & (1..=PER_CLASS).contains(&first)
         & (second <= PER_CLASS)
         & classed
 }

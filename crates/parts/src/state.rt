@@ -8,96 +8,42 @@ use crate::kinds::State;
 pub fn is_idle(s: State) -> bool
     ensures { result ≡ is_idle_lem s }
 {
-    match s {
-        State::Idle => true,
-        State::Waiting => false,
-        State::Holding => false,
-        State::WaitingSecond => false,
-        State::HoldingBoth => false,
-        State::Away => false,
-        State::Marked => false,
-        State::Dropped => false,
-    }
+    s == State::Idle
 }
 
 // Waiting, at either stage.
 pub fn waits(s: State) -> bool
     ensures { result ≡ waits s }
 {
-    match s {
-        State::Idle => false,
-        State::Waiting => true,
-        State::Holding => false,
-        State::WaitingSecond => true,
-        State::HoldingBoth => false,
-        State::Away => false,
-        State::Marked => false,
-        State::Dropped => false,
-    }
+    matches!(s, State::Waiting | State::WaitingSecond)
 }
 
 // A second unit is awaited or held.
 pub fn two_stage(s: State) -> bool
     ensures { result ≡ two_stage_lem s }
 {
-    match s {
-        State::Idle => false,
-        State::Waiting => false,
-        State::Holding => false,
-        State::WaitingSecond => true,
-        State::HoldingBoth => true,
-        State::Away => false,
-        State::Marked => false,
-        State::Dropped => false,
-    }
+    matches!(s, State::WaitingSecond | State::HoldingBoth)
 }
 
 // In a handler.
 pub fn is_away(s: State) -> bool
     ensures { result ≡ is_away s }
 {
-    match s {
-        State::Idle => false,
-        State::Waiting => false,
-        State::Holding => false,
-        State::WaitingSecond => false,
-        State::HoldingBoth => false,
-        State::Away => true,
-        State::Marked => true,
-        State::Dropped => true,
-    }
+    matches!(s, State::Away | State::Marked | State::Dropped)
 }
 
 // In a handler, and still registered.
 pub fn is_marked(s: State) -> bool
     ensures { result ≡ is_marked s }
 {
-    match s {
-        State::Idle => false,
-        State::Waiting => false,
-        State::Holding => false,
-        State::WaitingSecond => false,
-        State::HoldingBoth => false,
-        State::Away => false,
-        State::Marked => true,
-        State::Dropped => false,
-    }
+    s == State::Marked
 }
 
 // In a handler, and its ticket ended.
 pub fn is_dropped(s: State) -> bool
     ensures { result ≡ is_dropped s }
 {
-    match s {
-        State::Idle => false,
-        State::Waiting => false,
-        State::Holding => false,
-        State::WaitingSecond => false,
-        State::HoldingBoth => false,
-        State::Away => false,
-        State::Marked => false,
-        State::Dropped => true,
-    }
+    s == State::Dropped
 }
 
 // Its ticket is live.

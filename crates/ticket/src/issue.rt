@@ -6,13 +6,13 @@ use crate::kinds::Ticket;
 use crate::order::after;
 
 // The unit's only content: the ticket that it hands out next.
-#[derive(Clone, Copy)]
+#[derive(Clone, Copy, Debug, PartialEq, Eq)]
 pub struct IssuingUnit {
     pub counter: Ticket,
 }
 
 // A ticket handed out, and the unit moved on by one.
-#[derive(Clone, Copy)]
+#[derive(Clone, Copy, Debug, PartialEq, Eq)]
 pub struct Issued {
     pub ticket: Ticket,
     pub unit: IssuingUnit,

@@ -7,7 +7,7 @@ use crate::kinds::Ticket;
 use std::fmt::{self, Display, Formatter, Write};
 
 // What the first of two tickets is, seen from the second.
-#[derive(Clone, Copy)]
+#[derive(Clone, Copy, Debug, PartialEq, Eq)]
 pub enum Comparison {
     Older,
     Younger,
