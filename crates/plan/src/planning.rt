@@ -8,7 +8,7 @@ use crate::grants::{one_grant, two_grants};
 use effects::{Effect, Move, step_effect};
 use parts::{Answer, Core, Counts, Grants, Next, Register, Step, two_stage};
 use places::core_place;
-use refusals::{Verdict, judge};
+use refusals::judge;
 use settling::{Change, carry, enter, leave, stay, stored};
 use ticket::{CoreNo, Ticket, UnitNo};
 
@@ -162,8 +162,8 @@ pub fn plan_step(
     ensures { result ≡ plan_step s counts counter late c x y }
 {
     match judge(s, counts, late, c) {
-        Verdict::Refused(a) => refuse(a, counter, c, x, y),
-        Verdict::Allowed => {
+        Err(a) => refuse(a, counter, c, x, y),
+        Ok(()) => {
             let k = core_place(s);
             let e = effect_of(s, counts, counter, c, x, y);
             carry_out(e, k, c, x, y)
