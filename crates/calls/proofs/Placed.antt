@@ -14,10 +14,10 @@ use borrow.Author.Tests.{leb-true, leb-false, le-leb, lt-leb}
 use Rattle.block.specs.Sound.{sound}
 use Rattle.lines.specs.Reading.{read_step}
 use Rattle.headers.specs.Header.{read_header}
-use Rattle.lines.specs.declared.reading.StepLine.{StepLine}
-use Rattle.lines.specs.declared.reading.StepLine.TheVariants.{Line, Finished as Nothing, Malformed as NoStep, Unfinished as Cut}
-use Rattle.headers.specs.declared.reading.HeaderLine.{HeaderLine}
-use Rattle.headers.specs.declared.reading.HeaderLine.TheVariants.{Header, BadHeader as NoHeader, Unfinished as CutHeader}
+use Rattle.lines.specs.StepLine.{StepLine}
+use Rattle.lines.specs.StepLine.{Line, Finished as Nothing, Malformed as NoStep, Unfinished as Cut}
+use Rattle.headers.specs.HeaderLine.{HeaderLine}
+use Rattle.headers.specs.HeaderLine.{Header, BadHeader as NoHeader, Unfinished as CutHeader}
 use Rattle.digits.specs.Room.{fits}
 use Rattle.stops.specs.Run.{steps_most}
 use Rattle.stops.specs.Due.{line_due}

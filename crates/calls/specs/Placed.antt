@@ -11,8 +11,8 @@ use Rattle.digits.specs.Text.{pasted}
 use Rattle.digits.specs.Room.{fits}
 use Rattle.expected.specs.Expected.{expected_bytes}
 use Rattle.writing.specs.Writing.{output_header}
-use Rattle.headers.specs.declared.reading.HeaderLine.{HeaderLine}
-use Rattle.headers.specs.declared.reading.HeaderLine.TheVariants.{Header, BadHeader as NoHeader, Unfinished as CutHeader}
+use Rattle.headers.specs.HeaderLine.{HeaderLine}
+use Rattle.headers.specs.HeaderLine.{Header, BadHeader as NoHeader, Unfinished as CutHeader}
 use Rattle.stops.specs.declared.todo.Todo.{Todo}
 use Rattle.stops.specs.declared.todo.Todo.TheVariants.{Work, Stop as Halt}
 use Rattle.stops.specs.declared.run.Run.{Run}

@@ -3,7 +3,7 @@ use Rattle.std.specs.Prelude.{ℕ, ◌-◌, cond, List, eqb, length, take, get_o
 use Rattle.ticket.specs.Order.{compare}
 use Rattle.numbers.specs.Bytes.{end}
 use Rattle.numbers.specs.Number.{field}
-use Rattle.numbers.specs.declared.number.Field.TheVariants.{Bad, Last, Then}
+use Rattle.numbers.specs.Field.{Bad, Last, Then}
 use Rattle.comparing.specs.declared.pair.Told.{Told}
 use Rattle.comparing.specs.declared.pair.Told.TheVariants.{Malformed, Says}
 

@@ -14,15 +14,15 @@ use Rattle.parts.specs.declared.kinds.Fill.TheVariants.{Blank}
 use Rattle.parts.specs.declared.kinds.Profile.{Profile}
 use Rattle.parts.specs.declared.kinds.Profile.TheVariants.{T, D}
 use Rattle.numbers.specs.Number.{field}
-use Rattle.numbers.specs.declared.number.Field.{Field as Number}
-use Rattle.numbers.specs.declared.number.Field.TheVariants.{Bad, Last, Then}
+use Rattle.numbers.specs.Field.{Field as Number}
+use Rattle.numbers.specs.Field.{Bad, Last, Then}
 use Rattle.lines.specs.Bytes.{line_most, script_letter}
 use Rattle.lines.specs.Reading.{line_end_lem}
-use Rattle.lines.specs.declared.reading.Ending.{Ending}
-use Rattle.lines.specs.declared.reading.Ending.TheVariants.{At, Long, Short}
+use Rattle.lines.specs.Ending.{Ending}
+use Rattle.lines.specs.Ending.{At, Long, Short}
 use Rattle.headers.specs.Header.{with_counter_lem, with_second_lem, with_first_lem, with_cores, with_letter, parse_header_lem}
-use Rattle.headers.specs.declared.reading.ParsedHeader.{ParsedHeader}
-use Rattle.headers.specs.declared.reading.ParsedHeader.TheVariants.{Good, Not}
+use Rattle.headers.specs.ParsedHeader.{ParsedHeader}
+use Rattle.headers.specs.ParsedHeader.{Good, Not}
 use Rattle.faults.specs.Fault.{wrong, first, upto, numbers_from_lem, from_left, line_fault, fault_at}
 use Rattle.faults.specs.Claims.{HeaderFaults}
 use Rattle.faults.specs.declared.fault.Form.TheVariants.{Header}

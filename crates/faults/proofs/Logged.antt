@@ -10,13 +10,13 @@ use lib.Dec.{eqb, leb}
 use lib.ListN.{length, get_or, take, drop}
 use borrow.Author.Tests.{lt-leb}
 use Rattle.numbers.specs.Number.{field}
-use Rattle.numbers.specs.declared.number.Field.{Field as Number}
-use Rattle.numbers.specs.declared.number.Field.TheVariants.{Bad, Last, Then}
+use Rattle.numbers.specs.Field.{Field as Number}
+use Rattle.numbers.specs.Field.{Bad, Last, Then}
 use Rattle.lines.specs.Reading.{ending, one_number, two_numbers_lem}
-use Rattle.lines.specs.declared.reading.Ending.{Ending}
-use Rattle.lines.specs.declared.reading.Ending.TheVariants.{At, Long, Short}
-use Rattle.lines.specs.declared.reading.Parsed.{Parsed}
-use Rattle.lines.specs.declared.reading.Parsed.TheVariants.{Good, Not}
+use Rattle.lines.specs.Ending.{Ending}
+use Rattle.lines.specs.Ending.{At, Long, Short}
+use Rattle.lines.specs.Parsed.{Parsed}
+use Rattle.lines.specs.Parsed.{Good, Not}
 use Rattle.loglines.specs.Log.{log_most, numbers_from_lem as readFrom, Shown, shown_after, step_part, parse_log}
 use Rattle.loglines.proofs.Parts.{more, field_moves}
 use Rattle.faults.specs.Fault.{wrong, step_numbers, upto, numbers_from_lem, from_left, line_fault}

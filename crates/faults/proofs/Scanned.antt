@@ -8,8 +8,8 @@ use lib.ListN.{drop}
 use lib.Seq.{drop-drop}
 use Rattle.numbers.specs.Bytes.{tab}
 use Rattle.numbers.specs.Number.{number_most, scan, field}
-use Rattle.numbers.specs.declared.number.Field.{Field as Number}
-use Rattle.numbers.specs.declared.number.Field.TheVariants.{Bad, Last, Then}
+use Rattle.numbers.specs.Field.{Field as Number}
+use Rattle.numbers.specs.Field.{Bad, Last, Then}
 use Rattle.faults.specs.Fault.{wrong, other, tabbed, ended, upto, at_tab, next_by, numbers_from_lem}
 use Rattle.faults.specs.declared.fault.Kind.{Kind}
 use Rattle.faults.specs.declared.fault.Wrong.{Wrong}

@@ -12,14 +12,14 @@ use Rattle.parts.specs.Parts.{core_no, unit_no}
 use Rattle.parts.specs.declared.answer.Step.TheVariants.{R, N, P, I, C, L}
 use Rattle.numbers.specs.Bytes.{tab}
 use Rattle.numbers.specs.Number.{field}
-use Rattle.numbers.specs.declared.number.Field.{Field as Number}
-use Rattle.numbers.specs.declared.number.Field.TheVariants.{Bad, Last, Then}
+use Rattle.numbers.specs.Field.{Field as Number}
+use Rattle.numbers.specs.Field.{Bad, Last, Then}
 use Rattle.lines.specs.Bytes.{line_most}
 use Rattle.lines.specs.Reading.{ending, line_end_lem, one_number, two_numbers_lem, after_core, after_letter as afterLine, parse_step_lem}
-use Rattle.lines.specs.declared.reading.Ending.{Ending}
-use Rattle.lines.specs.declared.reading.Ending.TheVariants.{At, Long, Short}
-use Rattle.lines.specs.declared.reading.Parsed.{Parsed}
-use Rattle.lines.specs.declared.reading.Parsed.TheVariants.{Good, Not}
+use Rattle.lines.specs.Ending.{Ending}
+use Rattle.lines.specs.Ending.{At, Long, Short}
+use Rattle.lines.specs.Parsed.{Parsed}
+use Rattle.lines.specs.Parsed.{Good, Not}
 use Rattle.faults.specs.Fault.{wrong, step_numbers, numbers, kind_of, other, upto, numbers_from_lem, after_letter, from_left, returned, line_fault, fault_at}
 use Rattle.faults.specs.Claims.{StepFaults}
 use Rattle.faults.specs.declared.fault.Form.{Form}

@@ -14,8 +14,8 @@ use Rattle.parts.specs.declared.kinds.Profile.{Profile}
 use Rattle.parts.proofs.Bools.{and_left, and_right}
 use Rattle.numbers.specs.Bytes.{tab}
 use Rattle.lines.specs.Reading.{ending}
-use Rattle.lines.specs.declared.reading.Ending.{Ending}
-use Rattle.lines.specs.declared.reading.Ending.TheVariants.{At, Long, Short}
+use Rattle.lines.specs.Ending.{Ending}
+use Rattle.lines.specs.Ending.{At, Long, Short}
 use Rattle.lines.proofs.Turns.{found}
 use Rattle.faults.specs.Fault.{wrong, first, numbers, kind_of, digit, other, at_tab, look, counted, count, too_many, tabbed, ended, upto, next_field, next_by, next, numbers_from_lem, after_letter, from_left, returned, line_fault, most, too_long, fault_at}
 use Rattle.faults.specs.declared.fault.Form.{Form}

@@ -2,7 +2,7 @@
 use Rattle.std.specs.Prelude.{ℕ, ◌-◌, List, ◌≡◌, eqb, take, drop}
 use Rattle.std.proofs.Common.{⊎_elim}
 use Rattle.lines.specs.Reading.{ending, step_number}
-use Rattle.lines.specs.declared.reading.Ending.TheVariants.{At, Long, Short}
+use Rattle.lines.specs.Ending.{At, Long, Short}
 use Rattle.headers.specs.Header.{header_number}
 use Rattle.loglines.specs.Log.{log_most, Shown, parse_log}
 use Rattle.faults.specs.Fault.{wrong, fault_at}

@@ -9,7 +9,7 @@ use Rattle.numbers.specs.Bytes.{tab}
 use Rattle.numbers.specs.Number.{number_most}
 use Rattle.lines.specs.Bytes.{line_most, script_letter}
 use Rattle.lines.specs.Reading.{ending}
-use Rattle.lines.specs.declared.reading.Ending.TheVariants.{At, Long, Short}
+use Rattle.lines.specs.Ending.{At, Long, Short}
 use Rattle.loglines.specs.Log.{log_most}
 use Rattle.faults.specs.declared.fault.Form.{Form}
 use Rattle.faults.specs.declared.fault.Form.TheVariants.{Script, Log, Header}

@@ -8,14 +8,14 @@ use Rattle.parts.specs.declared.kinds.Profile.{Profile}
 use Rattle.parts.specs.declared.kinds.Profile.TheVariants.{T, D}
 use Rattle.numbers.specs.Bytes.{tab}
 use Rattle.numbers.specs.Number.{field}
-use Rattle.numbers.specs.declared.number.Field.{Field}
-use Rattle.numbers.specs.declared.number.Field.TheVariants.{Bad, Last, Then}
+use Rattle.numbers.specs.Field.{Field}
+use Rattle.numbers.specs.Field.{Bad, Last, Then}
 use Rattle.lines.specs.Bytes.{script_letter}
 use Rattle.lines.specs.Reading.{line_at}
-use Rattle.headers.specs.declared.reading.ParsedHeader.{ParsedHeader}
-use Rattle.headers.specs.declared.reading.ParsedHeader.TheVariants.{Good as GoodHeader, Not as NoHeader}
-use Rattle.headers.specs.declared.reading.HeaderLine.{HeaderLine}
-use Rattle.headers.specs.declared.reading.HeaderLine.TheVariants.{Header, BadHeader, Unfinished as Unended}
+use Rattle.headers.specs.ParsedHeader.{ParsedHeader}
+use Rattle.headers.specs.ParsedHeader.{Good as GoodHeader, Not as NoHeader}
+use Rattle.headers.specs.HeaderLine.{HeaderLine}
+use Rattle.headers.specs.HeaderLine.{Header, BadHeader, Unfinished as Unended}
 
 -- number by number, with the profile and what was read before it
 abbrev pub with_counter_lem : Profile → ℕ → ℕ → ℕ → Field → ParsedHeader

@@ -6,11 +6,11 @@ use mathlib.Core.Path.{◌≡◌, refl}
 use lib.Dec.{leb}
 use lib.ListN.{length, take, drop}
 use Rattle.lines.specs.Reading.{line_end_lem, parse_step_lem, step_line_lem, read_step, step_line_number, step_number}
-use Rattle.lines.specs.declared.reading.Ending.{Ending}
-use Rattle.lines.specs.declared.reading.Ending.TheVariants.{At, Long, Short}
-use Rattle.lines.specs.declared.reading.Parsed.{Parsed}
-use Rattle.lines.specs.declared.reading.Parsed.TheVariants.{Good, Not}
-use Rattle.lines.specs.declared.reading.StepLine.TheVariants.{Finished}
+use Rattle.lines.specs.Ending.{Ending}
+use Rattle.lines.specs.Ending.{At, Long, Short}
+use Rattle.lines.specs.Parsed.{Parsed}
+use Rattle.lines.specs.Parsed.{Good, Not}
+use Rattle.lines.specs.StepLine.{Finished}
 use Rattle.lines.proofs.Turns.{step_to}
 
 parsed_number : (p : Parsed) (next : ℕ) → step_line_number (step_line_lem p next) ≡ elim p [ Good x ↦ 0 | Not ↦ 21 ]

@@ -18,11 +18,11 @@ use Rattle.lines.specs.Bytes.{line_most}
 use Rattle.numbers.specs.Number.{number_most, scan}
 use Rattle.lines.specs.Reading.{ending, line_end_lem, one_number, two_numbers_lem, parse_step_lem, step_line_lem, read_step}
 use Rattle.lines.specs.ShortLine.{digit, short_two, short_one, short_line}
-use Rattle.numbers.specs.declared.number.Field.TheVariants.{Last, Then}
-use Rattle.lines.specs.declared.reading.Ending.TheVariants.{At}
-use Rattle.lines.specs.declared.reading.Parsed.TheVariants.{Not}
-use Rattle.lines.specs.declared.reading.Short.{Short}
-use Rattle.lines.specs.declared.reading.Short.TheVariants.{One, Two, Other}
+use Rattle.numbers.specs.Field.{Last, Then}
+use Rattle.lines.specs.Ending.{At}
+use Rattle.lines.specs.Parsed.{Not}
+use Rattle.lines.specs.Short.{Short}
+use Rattle.lines.specs.Short.{One, Two, Other}
 use Rattle.numbers.proofs.Turns.{opened}
 
 pub digit_says : (b : ℕ) → digit b ≡ true → (48 ≤ b) × (b ≤ 57)

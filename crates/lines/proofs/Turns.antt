@@ -14,10 +14,10 @@ use Rattle.numbers.specs.Bytes.{end}
 use Rattle.numbers.proofs.Turns.{opened}
 use Rattle.lines.specs.Bytes.{line_most}
 use Rattle.lines.specs.Reading.{ending, line_end_lem, parse_step_lem, step_line_lem}
-use Rattle.lines.specs.declared.reading.Ending.{Ending}
-use Rattle.lines.specs.declared.reading.Ending.TheVariants.{At, Long, Short}
-use Rattle.lines.specs.declared.reading.StepLine.{StepLine}
-use Rattle.lines.specs.declared.reading.StepLine.TheVariants.{Malformed, Unfinished}
+use Rattle.lines.specs.Ending.{Ending}
+use Rattle.lines.specs.Ending.{At, Long, Short}
+use Rattle.lines.specs.StepLine.{StepLine}
+use Rattle.lines.specs.StepLine.{Malformed, Unfinished}
 
 -- the step line at a place that is not past the end, by where it ends
 abbrev pub step_to : List ℕ → ℕ → Ending → StepLine
@@ -47,8 +47,9 @@ module _ (s : List ℕ) (i left : ℕ) (whole : Ending) (so : whole ≡ ending l
   pub at_end : 0 < left → i < length s → get_or s i 0 ≡ 10 → At i ≡ whole
   at_end p h e = sym (so ∙ rw (opened s i h, look_byte left i (get_or s i 0) (drop (i + 1) s) p, eq-eqb (get_or s i 0) end e))
 
-  pub at_more : 0 < left → i < length s → (get_or s i 0 ≡ 10 → ⊥) → whole ≡ ending (left - 1) (i + 1) (drop (i + 1) s)
-  at_more p h d = so ∙ rw (opened s i h, look_byte left i (get_or s i 0) (drop (i + 1) s) p, ne_eqb (get_or s i 0) end d)
+  pub at_more :
+      (rest : ℕ) → rest ≡ left - 1 → 0 < left → i < length s → (get_or s i 0 ≡ 10 → ⊥) → whole ≡ ending rest (i + 1) (drop (i + 1) s)
+  at_more rest e p h d = so ∙ rw (e, opened s i h, look_byte left i (get_or s i 0) (drop (i + 1) s) p, ne_eqb (get_or s i 0) end d)
 
   pub at_long : left ≤ 0 → Long ≡ whole
   at_long p = sym (so ∙ look_over left i (drop i s) p)

@@ -1,3 +1,7 @@
+pub mod Ending
+pub mod Parsed
+pub mod StepLine
+pub mod Short
 pub mod Bytes
 pub mod Reading
 pub mod ShortLine

@@ -1,57 +1,65 @@
 // Reading a step line at a place.
-ghost use Rattle.std.specs.Prelude.{◌≡◌, ◌+◌, ◌-◌, ◌≤◌, ◌<◌, length, take, drop};
-ghost use Rattle.lines.specs.ShortLine.{digit, short_line};
-ghost use Rattle.lines.specs.Reading.{ending, line_end_lem, one_number, two_numbers_lem, after_core, after_letter, parse_step_lem, step_line_lem, read_step, step_line_number, step_number};
+ghost use Rattle.std.specs.Prelude.{◌≡◌, ◌≤◌, ◌<◌, length, drop};
+ghost use Rattle.lines.specs.StepLine.{no_line};
+ghost use Rattle.lines.specs.ShortLine.{short_line};
+ghost use Rattle.lines.specs.Reading.{ending, line_end_lem, one_number, two_numbers_lem, parse_step_lem, step_line_lem, read_step, step_line_number, step_number};
 
-use numbers::{Field, read_field};
+use numbers::read_field;
 use parts::Step;
 use ticket::{CoreNo, UnitNo};
 
 // The longest script line, with its end.
 pub const LINE_MOST: usize = 15;
 
-// Where a line ends: the place of its end; or not within the longest line; or not yet.
-#[derive(Clone, Copy)]
-pub enum Ending {
-    At(usize),
-    Long,
-    Short,
+// Why no end of a line was found: none within the longest line, or none yet.
+#[derive(Clone, Copy, Debug, PartialEq, Eq)]
+pub enum NoEnd {
+    TooLong,
+    CutOff,
 }
 
-// The bytes of a line as a step.
-#[derive(Clone, Copy)]
-pub enum Parsed {
-    Good(Step),
-    Not,
-}
+// Where a line ends: the place of its end.
+pub type Ending = Result<usize, NoEnd>;
 
-// What stands at a place after the header: a step and the place after its line; nothing; a malformed
-// line, 21; a line that is not finished, 22.
-#[derive(Clone, Copy)]
-pub enum StepLine {
-    Line(Step, usize),
-    Finished,
+// The bytes of a line as a step, if they are one.
+pub type Parsed = Option<Step>;
+
+// A line that is no step: a malformed one, 21, or one that is not finished, 22.
+#[derive(Clone, Copy, Debug, PartialEq, Eq)]
+pub enum BadLine {
     Malformed,
     Unfinished,
 }
+
+// A line that is too long is malformed, and one cut off is not finished.
+impl From<NoEnd> for BadLine {
+    ghost from_gives = { λ e b. b ≡ no_line e };
+
+    fn from(e: NoEnd) -> BadLine {
+        match e {
+            NoEnd::TooLong => BadLine::Malformed,
+            NoEnd::CutOff => BadLine::Unfinished,
+        }
+    }
+}
+
+// What stands at a place after the header: a step and the place after its line, or nothing, or a bad line.
+pub type StepLine = Result<Option<(Step, usize)>, BadLine>;
 
 // Where the line that starts at a place ends, if one of the next so many bytes is a line end.
 pub fn end_within(s: &[u8], at: usize, most: usize) -> Ending
     ensures { result ≡ ending most at (drop at s.now) }
 {
-    let mut i = at;
-    let mut left = most;
-    while 0 < left {
-        if s.len() <= i {
-            return Ending::Short;
+    let left = s.len().saturating_sub(at);
+    for i in at..at + most.min(left) {
+        if s[i] == b'\n' {
+            return Ok(i);
         }
-        if s[i] == 10 {
-            return Ending::At(i);
-        }
-        i += 1;
-        left -= 1;
     }
-    Ending::Long
+    if left < most {
+        return Err(NoEnd::CutOff);
+    }
+    Err(NoEnd::TooLong)
 }
 
 // The end of the line that starts at a place.
@@ -62,59 +70,26 @@ pub fn line_end(s: &[u8], at: usize) -> Ending
 }
 
 // A letter with one number.
-fn one_number(letter: u8, k: CoreNo) -> Parsed
+pub fn one_number(letter: u8, k: CoreNo) -> Parsed
     ensures { result ≡ one_number letter k.0 }
 {
-    if letter == b'P' {
-        return Parsed::Good(Step::P(k));
-    }
-    if letter < b'L' {
-        if letter == b'C' {
-            Parsed::Good(Step::C(k))
-        } else if letter == b'I' {
-            Parsed::Good(Step::I(k))
-        } else {
-            Parsed::Not
-        }
-    } else if letter == b'L' {
-        Parsed::Good(Step::L(k))
-    } else {
-        Parsed::Not
+    match letter {
+        b'P' => Some(Step::P(k)),
+        b'I' => Some(Step::I(k)),
+        b'C' => Some(Step::C(k)),
+        b'L' => Some(Step::L(k)),
+        _ => None,
     }
 }
 
 // A letter with two numbers.
-fn two_numbers(letter: u8, k: CoreNo, u: UnitNo) -> Parsed
+pub fn two_numbers(letter: u8, k: CoreNo, u: UnitNo) -> Parsed
     ensures { result ≡ two_numbers_lem letter k.0 u.0 }
 {
-    if letter == b'R' {
-        Parsed::Good(Step::R(k, u))
-    } else if letter == b'N' {
-        Parsed::Good(Step::N(k, u))
-    } else {
-        Parsed::Not
-    }
-}
-
-// The core's number is read; f is the field after it.
-fn after_core(letter: u8, k: CoreNo, f: Field) -> Parsed
-    ensures { result ≡ after_core letter k.0 f }
-{
-    match f {
-        Field::Bad => Parsed::Not,
-        Field::Last(u) => two_numbers(letter, k, UnitNo(u)),
-        Field::Then(_, _) => Parsed::Not,
-    }
-}
-
-// The letter is read; f is the field after it.
-fn after_letter(s: &[u8], letter: u8, f: Field) -> Parsed
-    ensures { result ≡ after_letter s.now letter f }
-{
-    match f {
-        Field::Bad => Parsed::Not,
-        Field::Last(k) => one_number(letter, CoreNo(k)),
-        Field::Then(k, i) => after_core(letter, CoreNo(k), read_field(s, i)),
+    match letter {
+        b'R' => Some(Step::R(k, u)),
+        b'N' => Some(Step::N(k, u)),
+        _ => None,
     }
 }
 
@@ -122,30 +97,21 @@ fn after_letter(s: &[u8], letter: u8, f: Field) -> Parsed
 fn parse_step(s: &[u8]) -> Parsed
     ensures { result ≡ parse_step_lem s.now }
 {
-    if s.len() < 2 {
-        return Parsed::Not;
+    if s.len() < 2 || s[1] != b'\t' {
+        return None;
     }
-    if s[1] == 9 {
-        after_letter(s, s[0], read_field(s, 2))
-    } else {
-        Parsed::Not
+    let (k, more) = read_field(s, 2)?;
+    let Some(i) = more else {
+        return one_number(s[0], CoreNo(k));
+    };
+    match read_field(s, i)? {
+        (u, None) => two_numbers(s[0], CoreNo(k), UnitNo(u)),
+        (_, Some(_)) => None,
     }
 }
 
-// A step line whose numbers have one digit each: its letter and its numbers. Or some other line.
-#[derive(Clone, Copy)]
-enum Short {
-    One(u8, CoreNo),
-    Two(u8, CoreNo, UnitNo),
-    Other,
-}
-
-// Whether a byte is a digit.
-fn digit(b: u8) -> bool
-    ensures { result ≡ digit b }
-{
-    (48 <= b) & (b <= 57)
-}
+// A step line whose numbers have one digit each: its letter, its core and, if it has two numbers, its unit. Or some other line.
+type Short = Option<(u8, CoreNo, Option<UnitNo>)>;
 
 // Whether the line at a place is short. Most lines are: they are read without looking for their end.
 fn short_line(s: &[u8], at: usize) -> Short
@@ -153,31 +119,30 @@ fn short_line(s: &[u8], at: usize) -> Short
     ensures { result ≡ short_line s.now at }
 {
     if s.len() - at < 6 {
-        return Short::Other;
+        return None;
     }
     let d = s[at + 2];
-    if (s[at + 1] != 9) | !digit(d) {
-        return Short::Other;
+    if (s[at + 1] != b'\t') | !d.is_ascii_digit() {
+        return None;
     }
+    let k = CoreNo(u16::from(d - b'0'));
     let e = s[at + 3];
-    if e == 10 {
-        return Short::One(s[at], CoreNo((d - 48) as u16));
+    if e == b'\n' {
+        return Some((s[at], k, None));
     }
     let f = s[at + 4];
-    if (e == 9) & digit(f) & (s[at + 5] == 10) {
-        return Short::Two(s[at], CoreNo((d - 48) as u16), UnitNo((f - 48) as u16));
+    if (e == b'\t') & f.is_ascii_digit() & (s[at + 5] == b'\n') {
+        return Some((s[at], k, Some(UnitNo(u16::from(f - b'0')))));
     }
-    Short::Other
+    None
 }
 
 // A line that ends before the place next, by what its bytes are.
 fn found(p: Parsed, next: usize) -> StepLine
     ensures { result ≡ step_line_lem p next }
 {
-    match p {
-        Parsed::Good(x) => StepLine::Line(x, next),
-        Parsed::Not => StepLine::Malformed,
-    }
+    let step = p.ok_or(BadLine::Malformed)?;
+    Ok(Some((step, next)))
 }
 
 // The step line at a place.
@@ -185,12 +150,12 @@ pub fn step_line_at(s: &[u8], at: usize) -> StepLine
     ensures { (result ≡ read_step s.now at) × (step_line_number result ≡ step_number s.now at) }
 {
     if s.len() <= at {
-        return StepLine::Finished;
+        return Ok(None);
     }
     match short_line(s, at) {
-        Short::One(letter, k) => found(one_number(letter, k), at + 4),
-        Short::Two(letter, k, u) => found(two_numbers(letter, k, u), at + 6),
-        Short::Other => any_line(s, at),
+        Some((letter, k, None)) => found(one_number(letter, k), at + 4),
+        Some((letter, k, Some(u))) => found(two_numbers(letter, k, u), at + 6),
+        None => any_line(s, at),
     }
 }
 
@@ -199,17 +164,6 @@ fn any_line(s: &[u8], at: usize) -> StepLine
     requires { at < length s.now }
     ensures { result ≡ read_step s.now at }
 {
-    match line_end(s, at) {
-        Ending::At(e) => step_at(s, at, e),
-        Ending::Long => StepLine::Malformed,
-        Ending::Short => StepLine::Unfinished,
-    }
-}
-
-// The step line from a place to its end, e.
-fn step_at(s: &[u8], at: usize, e: usize) -> StepLine
-    requires { (at ≤ e) × (e < length s.now) }
-    ensures { result ≡ step_line_lem (parse_step_lem (take (e - at) (drop at s.now))) (e + 1) }
-{
+    let e = line_end(s, at)?;
     found(parse_step(&s[at..e]), e + 1)
 }

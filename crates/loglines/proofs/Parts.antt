@@ -15,12 +15,12 @@ use Rattle.parts.specs.declared.answer.Step.{Step}
 use Rattle.parts.specs.declared.answer.Step.TheVariants.{R, N, P, I, C, L}
 use Rattle.numbers.specs.Bytes.{tab}
 use Rattle.numbers.specs.Number.{decimal, field}
-use Rattle.numbers.specs.declared.number.Field.{Field}
-use Rattle.numbers.specs.declared.number.Field.TheVariants.{Bad, Last, Then}
+use Rattle.numbers.specs.Field.{Field}
+use Rattle.numbers.specs.Field.{Bad, Last, Then}
 use Rattle.numbers.proofs.Scanning.{scan_exact_then}
 use Rattle.lines.specs.Reading.{one_number, two_numbers_lem}
-use Rattle.lines.specs.declared.reading.Parsed.{Parsed}
-use Rattle.lines.specs.declared.reading.Parsed.TheVariants.{Good, Not as NoStep}
+use Rattle.lines.specs.Parsed.{Parsed}
+use Rattle.lines.specs.Parsed.{Good, Not as NoStep}
 use Rattle.writing.specs.Writing.{numbers_of}
 use Rattle.loglines.specs.Log.{numbers_from_lem, Shown, shown_after, step_part, parse_log}
 use Rattle.loglines.specs.Parts.{part_of, part_two, part_longer, part_after, part_in, rest_from}

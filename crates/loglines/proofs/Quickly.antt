@@ -13,12 +13,12 @@ use Rattle.parts.specs.declared.answer.Step.{Step}
 use Rattle.parts.specs.declared.answer.Step.TheVariants.{R, N, P, I, C, L}
 use Rattle.numbers.specs.Bytes.{tab, end}
 use Rattle.numbers.specs.Number.{scan, field}
-use Rattle.numbers.specs.declared.number.Field.TheVariants.{Then}
+use Rattle.numbers.specs.Field.{Then}
 use Rattle.numbers.proofs.Turns.{opened}
 use Rattle.numbers.proofs.Scanning.{digits_one, scan_digits}
 use Rattle.lines.specs.Reading.{ending}
 use Rattle.lines.specs.ShortLine.{digit}
-use Rattle.lines.specs.declared.reading.Ending.TheVariants.{At}
+use Rattle.lines.specs.Ending.{At}
 use Rattle.lines.proofs.Shortly.{digit_says}
 use Rattle.lines.proofs.Turns.{found}
 use Rattle.writing.specs.Writing.{numbers_of}

@@ -13,7 +13,7 @@ use Rattle.numbers.specs.Number.{decimal}
 use Rattle.numbers.proofs.Scanning.{decimal_length}
 use Rattle.lines.specs.Bytes.{letter_of}
 use Rattle.lines.specs.Reading.{ending}
-use Rattle.lines.specs.declared.reading.Ending.TheVariants.{At}
+use Rattle.lines.specs.Ending.{At}
 use Rattle.digits.specs.Text.{tabbed}
 use Rattle.writing.specs.Writing.{fields, numbers_of}
 use Rattle.writing.specs.Claims.{Small}

@@ -13,12 +13,12 @@ use borrow.Author.Tests.{eq-eqb, ne_eqb, eqb-true, eqb-false, not-true, not-fals
 use Rattle.parts.specs.declared.answer.Step.{Step}
 use Rattle.numbers.specs.Bytes.{tab}
 use Rattle.numbers.specs.Number.{field}
-use Rattle.numbers.specs.declared.number.Field.{Field}
-use Rattle.numbers.specs.declared.number.Field.TheVariants.{Bad, Last, Then}
+use Rattle.numbers.specs.Field.{Field}
+use Rattle.numbers.specs.Field.{Bad, Last, Then}
 use Rattle.numbers.proofs.Scanning.{scan_exact_then}
 use Rattle.lines.specs.Reading.{one_number, two_numbers_lem}
-use Rattle.lines.specs.declared.reading.Parsed.{Parsed}
-use Rattle.lines.specs.declared.reading.Parsed.TheVariants.{Good, Not as NoStep}
+use Rattle.lines.specs.Parsed.{Parsed}
+use Rattle.lines.specs.Parsed.{Good, Not as NoStep}
 use Rattle.loglines.specs.Log.{numbers_from_lem, seen_at}
 use Rattle.loglines.specs.Parts.{part_of, part_two, part_longer, part_after, part_in, rest_from, are_numbers, is_number}
 use Rattle.loglines.specs.Parts.{off_by, ended_at, judged_by, judged_in}

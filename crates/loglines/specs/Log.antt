@@ -10,10 +10,10 @@ use Rattle.parts.specs.declared.answer.Grants.{Grants}
 use Rattle.parts.specs.declared.answer.Grants.TheVariants.{None, One, Two}
 use Rattle.numbers.specs.Bytes.{tab}
 use Rattle.numbers.specs.Number.{field}
-use Rattle.numbers.specs.declared.number.Field.TheVariants.{Bad, Last, Then}
+use Rattle.numbers.specs.Field.{Bad, Last, Then}
 use Rattle.lines.specs.Reading.{one_number, two_numbers_lem}
-use Rattle.lines.specs.declared.reading.Parsed.{Parsed}
-use Rattle.lines.specs.declared.reading.Parsed.TheVariants.{Good, Not}
+use Rattle.lines.specs.Parsed.{Parsed}
+use Rattle.lines.specs.Parsed.{Good, Not}
 use Rattle.loglines.specs.declared.seen.Off.{Off}
 use Rattle.loglines.specs.declared.seen.Seen.{Seen}
 use Rattle.loglines.specs.declared.seen.Seen.TheVariants.{Missing, Number}

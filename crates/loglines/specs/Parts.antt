@@ -4,11 +4,11 @@ use Rattle.std.specs.Prelude.{ℕ, ◌+◌, Bool, true, false, cond, List, [], �
 use Rattle.std.proofs.Common.{inl, ⊎_elim}
 use Rattle.numbers.specs.Bytes.{tab}
 use Rattle.numbers.specs.Number.{field}
-use Rattle.numbers.specs.declared.number.Field.{Field}
-use Rattle.numbers.specs.declared.number.Field.TheVariants.{Bad, Last, Then}
+use Rattle.numbers.specs.Field.{Field}
+use Rattle.numbers.specs.Field.{Bad, Last, Then}
 use Rattle.lines.specs.Reading.{one_number, two_numbers_lem}
-use Rattle.lines.specs.declared.reading.Parsed.{Parsed}
-use Rattle.lines.specs.declared.reading.Parsed.TheVariants.{Good, Not as NoStep}
+use Rattle.lines.specs.Parsed.{Parsed}
+use Rattle.lines.specs.Parsed.{Good, Not as NoStep}
 use Rattle.loglines.specs.Log.{numbers_from_lem, first_off, off_at}
 use Rattle.loglines.specs.declared.line.Part.{Part}
 use Rattle.loglines.specs.declared.line.Part.TheVariants.{Step as Begins, Not}

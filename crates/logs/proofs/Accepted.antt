@@ -24,7 +24,7 @@ use Rattle.laws.proofs.Keeping.{built_sound}
 use Rattle.laws.proofs.Claims.{keeps_sound}
 use Rattle.numbers.specs.Number.{number_most}
 use Rattle.headers.specs.Header.{read_header}
-use Rattle.headers.specs.declared.reading.HeaderLine.TheVariants.{Header}
+use Rattle.headers.specs.HeaderLine.{Header}
 use Rattle.expected.proofs.Lengths.{Placed}
 use Rattle.writing.specs.Writing.{numbers_of, script_header}
 use Rattle.writing.specs.Claims.{Small}

@@ -27,8 +27,8 @@ use Rattle.numbers.proofs.Scanning.{AllDigits, digits_all}
 use Rattle.lines.specs.Bytes.{script_letter, output_letter, letter_of}
 use Rattle.lines.specs.Reading.{read_step}
 use Rattle.headers.specs.Header.{read_header}
-use Rattle.headers.specs.declared.reading.HeaderLine.{HeaderLine}
-use Rattle.headers.specs.declared.reading.HeaderLine.TheVariants.{Header, BadHeader as NoHeader, Unfinished as CutHeader}
+use Rattle.headers.specs.HeaderLine.{HeaderLine}
+use Rattle.headers.specs.HeaderLine.{Header, BadHeader as NoHeader, Unfinished as CutHeader}
 use Rattle.expected.specs.Expected.{expected_bytes}
 use Rattle.writing.specs.Writing.{fields, numbers_of, step_bytes, script_header, output_header}
 use Rattle.writing.specs.Claims.{Stands}

@@ -18,11 +18,11 @@ use Rattle.block.specs.declared.table.Table.{Table}
 use Rattle.building.specs.Build.{build}
 use Rattle.laws.proofs.Claims.{on_sound_lem}
 use Rattle.lines.specs.Reading.{ending}
-use Rattle.lines.specs.declared.reading.Ending.{Ending}
-use Rattle.lines.specs.declared.reading.Ending.TheVariants.{At, Long, Short}
+use Rattle.lines.specs.Ending.{Ending}
+use Rattle.lines.specs.Ending.{At, Long, Short}
 use Rattle.headers.specs.Header.{read_header}
-use Rattle.headers.specs.declared.reading.HeaderLine.{HeaderLine}
-use Rattle.headers.specs.declared.reading.HeaderLine.TheVariants.{Header, BadHeader as NoHeader, Unfinished as CutHeader}
+use Rattle.headers.specs.HeaderLine.{HeaderLine}
+use Rattle.headers.specs.HeaderLine.{Header, BadHeader as NoHeader, Unfinished as CutHeader}
 use Rattle.stops.specs.Run.{steps_most}
 use Rattle.stops.specs.declared.run.Run.{Run}
 use Rattle.stops.specs.declared.run.Stop.{Stop}

@@ -22,7 +22,7 @@ use Rattle.expected.specs.Expected.{grants_bytes, shown_bytes}
 use Rattle.expected.proofs.Lengths.{expected_bound}
 use Rattle.lines.specs.Bytes.{letter_of}
 use Rattle.lines.specs.Reading.{ending}
-use Rattle.lines.specs.declared.reading.Ending.TheVariants.{At}
+use Rattle.lines.specs.Ending.{At}
 use Rattle.writing.specs.Writing.{fields, numbers_of}
 use Rattle.writing.specs.Claims.{Small}
 use Rattle.loglines.specs.Log.{log_most, Shown, parse_log, grants_given, given_by}

@@ -15,8 +15,8 @@ use Rattle.block.specs.Sound.{sound}
 use Rattle.block.specs.Steps.{step}
 use Rattle.block.specs.declared.table.Table.{Table}
 use Rattle.lines.specs.Reading.{ending}
-use Rattle.lines.specs.declared.reading.Ending.{Ending}
-use Rattle.lines.specs.declared.reading.Ending.TheVariants.{At, Long, Short}
+use Rattle.lines.specs.Ending.{Ending}
+use Rattle.lines.specs.Ending.{At, Long, Short}
 use Rattle.lines.proofs.Turns.{found}
 use Rattle.stops.specs.Run.{steps_most}
 use Rattle.stops.specs.declared.run.Run.{Run}

@@ -7,11 +7,11 @@ use Rattle.block.specs.Sound.{sound}
 use Rattle.block.specs.Steps.{step}
 use Rattle.block.specs.declared.stepped.Stepped.{Stepped}
 use Rattle.lines.specs.Reading.{ending}
-use Rattle.lines.specs.declared.reading.Ending.{Ending}
-use Rattle.lines.specs.declared.reading.Ending.TheVariants.{At, Long, Short}
+use Rattle.lines.specs.Ending.{Ending}
+use Rattle.lines.specs.Ending.{At, Long, Short}
 use Rattle.headers.specs.Header.{read_header}
-use Rattle.headers.specs.declared.reading.HeaderLine.{HeaderLine}
-use Rattle.headers.specs.declared.reading.HeaderLine.TheVariants.{Header, BadHeader as NoHeader, Unfinished as CutHeader}
+use Rattle.headers.specs.HeaderLine.{HeaderLine}
+use Rattle.headers.specs.HeaderLine.{Header, BadHeader as NoHeader, Unfinished as CutHeader}
 use Rattle.writing.specs.Writing.{numbers_of}
 use Rattle.stops.specs.Run.{steps_most, stop_number}
 use Rattle.stops.specs.declared.run.Run.{Run}

@@ -4,8 +4,8 @@ use Rattle.std.specs.Prelude.{ℕ, ◌+◌, ◌-◌, ◌<◌, true, false, cond,
 use Rattle.parts.specs.declared.answer.Step.{Step}
 use Rattle.block.specs.declared.table.Table.{Table}
 use Rattle.lines.specs.Reading.{ending}
-use Rattle.lines.specs.declared.reading.Ending.{Ending}
-use Rattle.lines.specs.declared.reading.Ending.TheVariants.{At, Long, Short}
+use Rattle.lines.specs.Ending.{Ending}
+use Rattle.lines.specs.Ending.{At, Long, Short}
 use Rattle.stops.specs.Run.{steps_most}
 use Rattle.stops.specs.declared.run.Stop.{Stop}
 use Rattle.stops.specs.declared.run.Stop.TheVariants.{Finished, Unsound, Malformed, Unfinished, TooMany}

@@ -12,8 +12,8 @@ use lib.ListN.{length, get_or, length-append}
 use borrow.Author.Tests.{ltb-true, ltb-false, lt-ltb, le-ltb, le-leb, ne_eqb, eqb-true, eqb-false}
 use Rattle.numbers.specs.Bytes.{tab, end}
 use Rattle.numbers.specs.Number.{digits, decimal, number_most, follows, scan}
-use Rattle.numbers.specs.declared.number.Field.{Field}
-use Rattle.numbers.specs.declared.number.Field.TheVariants.{Bad, Last, Then}
+use Rattle.numbers.specs.Field.{Field}
+use Rattle.numbers.specs.Field.{Bad, Last, Then}
 use Rattle.numbers.proofs.Turns.{follows_says}
 
 -- How a number is written

@@ -15,10 +15,10 @@ use Rattle.parts.specs.declared.kinds.Counts.{Counts}
 use Rattle.block.specs.Sound.{sound}
 use Rattle.block.specs.Table.{Shaped}
 use Rattle.lines.specs.Reading.{read_step}
-use Rattle.lines.specs.declared.reading.StepLine.{StepLine}
-use Rattle.lines.specs.declared.reading.StepLine.TheVariants.{Line, Finished as Nothing, Malformed as NoStep, Unfinished as Cut}
+use Rattle.lines.specs.StepLine.{StepLine}
+use Rattle.lines.specs.StepLine.{Line, Finished as Nothing, Malformed as NoStep, Unfinished as Cut}
 use Rattle.headers.specs.Header.{read_header}
-use Rattle.headers.specs.declared.reading.HeaderLine.TheVariants.{Header}
+use Rattle.headers.specs.HeaderLine.{Header}
 use Rattle.digits.specs.Text.{pasted}
 use Rattle.digits.specs.Room.{fits}
 use Rattle.laws.proofs.Claims.{keeps_sound}

@@ -9,7 +9,7 @@ use Rattle.block.specs.Steps.{step}
 use Rattle.block.specs.Table.{core_of, Shaped}
 use Rattle.block.specs.declared.table.Table.{Table}
 use Rattle.headers.specs.Header.{read_header}
-use Rattle.headers.specs.declared.reading.HeaderLine.TheVariants.{Header}
+use Rattle.headers.specs.HeaderLine.{Header}
 use Rattle.expected.specs.Expected.{expected_most, expected_bytes}
 use Rattle.stops.specs.Run.{steps_most, beginning}
 use Rattle.stops.specs.declared.run.Run.{Run}

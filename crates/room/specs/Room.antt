@@ -2,7 +2,7 @@
 use Rattle.std.specs.Prelude.{ℕ, zero, suc, ◌+◌, ◌*◌, cond, List, ltb, length, drop}
 use Rattle.lines.specs.Bytes.{line_most}
 use Rattle.lines.specs.Reading.{read_step}
-use Rattle.lines.specs.declared.reading.StepLine.TheVariants.{Line, Finished, Malformed, Unfinished}
+use Rattle.lines.specs.StepLine.{Line, Finished, Malformed, Unfinished}
 use Rattle.expected.specs.Expected.{expected_most}
 use Rattle.stops.specs.Run.{steps_most}
 

@@ -8,8 +8,8 @@ use lib.ListN.{length}
 use borrow.Author.Tests.{le-leb, lt-leb}
 use Rattle.parts.specs.declared.answer.Step.{Step}
 use Rattle.lines.specs.Reading.{read_step}
-use Rattle.lines.specs.declared.reading.StepLine.{StepLine}
-use Rattle.lines.specs.declared.reading.StepLine.TheVariants.{Line, Finished as Nothing, Malformed as NoStep, Unfinished as Cut}
+use Rattle.lines.specs.StepLine.{StepLine}
+use Rattle.lines.specs.StepLine.{Line, Finished as Nothing, Malformed as NoStep, Unfinished as Cut}
 use Rattle.stops.specs.Run.{steps_most}
 use Rattle.stops.specs.Due.{line_due, due}
 use Rattle.stops.specs.declared.todo.Todo.{Todo}

@@ -1,8 +1,8 @@
 -- "Step line order: finished, 24, 22, 21, 16, 23." What is due at a step line; 23 is known later, when its answer is.
 use Rattle.std.specs.Prelude.{ℕ, Bool, cond, List, leb, length}
 use Rattle.lines.specs.Reading.{read_step}
-use Rattle.lines.specs.declared.reading.StepLine.{StepLine}
-use Rattle.lines.specs.declared.reading.StepLine.TheVariants.{Line, Finished as Nothing, Malformed as NoStep, Unfinished as Cut}
+use Rattle.lines.specs.StepLine.{StepLine}
+use Rattle.lines.specs.StepLine.{Line, Finished as Nothing, Malformed as NoStep, Unfinished as Cut}
 use Rattle.stops.specs.Run.{steps_most}
 use Rattle.stops.specs.declared.todo.Todo.{Todo}
 use Rattle.stops.specs.declared.todo.Todo.TheVariants.{Work, Stop as Halt}

@@ -26,10 +26,10 @@ use Rattle.digits.specs.Room.{fits, wrote, left}
 use Rattle.digits.proofs.Pasting.{written as put-so}
 use Rattle.expected.specs.Expected.{expected_bytes}
 use Rattle.writing.specs.Writing.{output_header, wrote_header, left_header}
-use Rattle.headers.specs.declared.reading.HeaderLine.{HeaderLine}
-use Rattle.headers.specs.declared.reading.HeaderLine.TheVariants.{Header, BadHeader as NoHeader, Unfinished as CutHeader}
-use Rattle.lines.specs.declared.reading.StepLine.{StepLine}
-use Rattle.lines.specs.declared.reading.StepLine.TheVariants.{Line, Finished as Nothing, Malformed as NoStep, Unfinished as Cut}
+use Rattle.headers.specs.HeaderLine.{HeaderLine}
+use Rattle.headers.specs.HeaderLine.{Header, BadHeader as NoHeader, Unfinished as CutHeader}
+use Rattle.lines.specs.StepLine.{StepLine}
+use Rattle.lines.specs.StepLine.{Line, Finished as Nothing, Malformed as NoStep, Unfinished as Cut}
 use Rattle.digits.specs.Written.{Written}
 use Rattle.digits.specs.Written.{Next, OutOfRange, NoRoom as Full}
 use Rattle.stops.specs.Run.{steps_most}

@@ -28,13 +28,13 @@ use Rattle.headers.specs.Header.{with_counter_lem, with_cores, with_letter, pars
 use Rattle.digits.specs.Text.{tabbed}
 use Rattle.writing.specs.Writing.{lettered, lettered2, numbers_of, step_bytes, script_header}
 use Rattle.writing.specs.Claims.{Small}
-use Rattle.numbers.specs.declared.number.Field.{Field}
-use Rattle.numbers.specs.declared.number.Field.TheVariants.{Last, Then}
-use Rattle.lines.specs.declared.reading.Ending.TheVariants.{At}
-use Rattle.lines.specs.declared.reading.Parsed.TheVariants.{Good}
-use Rattle.lines.specs.declared.reading.StepLine.TheVariants.{Line}
-use Rattle.headers.specs.declared.reading.ParsedHeader.TheVariants.{Good as GoodHeader}
-use Rattle.headers.specs.declared.reading.HeaderLine.TheVariants.{Header}
+use Rattle.numbers.specs.Field.{Field}
+use Rattle.numbers.specs.Field.{Last, Then}
+use Rattle.lines.specs.Ending.{At}
+use Rattle.lines.specs.Parsed.{Good}
+use Rattle.lines.specs.StepLine.{Line}
+use Rattle.headers.specs.ParsedHeader.{Good as GoodHeader}
+use Rattle.headers.specs.HeaderLine.{Header}
 use Rattle.numbers.proofs.Scanning.{AllDigits, digits_all, digits_most, scan_digits, decimal_length}
 
 -- The line's end

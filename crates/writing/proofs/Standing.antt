@@ -8,9 +8,9 @@ use lib.ListN.{length, take, drop, length-append, length-drop, take-append-drop}
 use lib.Seq.{drop-drop, length-take-le}
 use Rattle.parts.proofs.Ranging.{none_second}
 use Rattle.lines.specs.Reading.{read_step}
-use Rattle.lines.specs.declared.reading.StepLine.TheVariants.{Line}
+use Rattle.lines.specs.StepLine.{Line}
 use Rattle.headers.specs.Header.{read_header}
-use Rattle.headers.specs.declared.reading.HeaderLine.TheVariants.{Header}
+use Rattle.headers.specs.HeaderLine.{Header}
 use Rattle.writing.specs.Writing.{step_bytes, script_header}
 use Rattle.writing.specs.Claims.{Stands, StepAsWritten, HeaderAsWritten, NoneSecondRead}
 use Rattle.writing.proofs.ReadsBack.{read_step_written, read_header_written}

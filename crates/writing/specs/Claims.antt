@@ -8,9 +8,9 @@ use Rattle.parts.specs.declared.kinds.Profile.TheVariants.{D}
 use Rattle.parts.specs.declared.answer.Step.{Step}
 use Rattle.numbers.specs.Number.{number_most}
 use Rattle.lines.specs.Reading.{read_step}
-use Rattle.lines.specs.declared.reading.StepLine.TheVariants.{Line}
+use Rattle.lines.specs.StepLine.{Line}
 use Rattle.headers.specs.Header.{read_header}
-use Rattle.headers.specs.declared.reading.HeaderLine.TheVariants.{Header}
+use Rattle.headers.specs.HeaderLine.{Header}
 use Rattle.writing.specs.Writing.{numbers_of, step_bytes, script_header}
 
 -- numbers that a line can hold

@@ -4,7 +4,7 @@ use mathlib.Core.Path.{◌≡◌, ap, ◌∙◌}
 use Prim.Native.Nat.{ℕ}
 use borrow.Author.Rules.{rules}
 use Rattle.headers.specs.Header.{read_header, header_line_number, header_number}
-use Rattle.headers.specs.declared.reading.HeaderLine.{HeaderLine}
+use Rattle.headers.specs.HeaderLine.{HeaderLine}
 use Rattle.lines.proofs.Turns.{found_within}
 use Rattle.headers.proofs.Numbers.{header_number_lem}
 use Rattle.headers.proofs.reading.header_line_at.Goals as goal

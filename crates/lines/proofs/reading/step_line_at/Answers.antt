@@ -7,10 +7,10 @@ use Rattle.ticket.specs.declared.kinds.CoreNo.{CoreNo}
 use Rattle.ticket.specs.declared.kinds.UnitNo.{UnitNo}
 use Rattle.lines.specs.Reading.{one_number, two_numbers_lem, step_line_lem, read_step, step_line_number, step_number}
 use Rattle.lines.specs.ShortLine.{short_line}
-use Rattle.lines.specs.declared.reading.Parsed.{Parsed}
-use Rattle.lines.specs.declared.reading.Short.{Short}
-use Rattle.lines.specs.declared.reading.Short.TheVariants.{One, Two}
-use Rattle.lines.specs.declared.reading.StepLine.{StepLine}
+use Rattle.lines.specs.Parsed.{Parsed}
+use Rattle.lines.specs.Short.{Short}
+use Rattle.std.specs.Prelude.{Option, None, Some}
+use Rattle.lines.specs.StepLine.{StepLine}
 use Rattle.lines.proofs.Shortly.{short_one_lem, short_two_lem}
 use Rattle.lines.proofs.Numbers.{step_number_lem}
 use Rattle.lines.proofs.reading.step_line_at.Goals as goal
@@ -20,18 +20,18 @@ module _ (s : List ℕ) (at : ℕ) where
   numbered : (r : StepLine) → r ≡ read_step s at → (r ≡ read_step s at) × (step_line_number r ≡ step_number s at)
   numbered r is = (is, ap step_line_number is ∙ step_number_lem s at)
 
-  module _ (w : Short) (says : w ≡ short_line s at) (p : Parsed) (r : StepLine) where
-    one : (l : ℕ) (k : CoreNo) → w ≡ One l k → p ≡ one_number l k.0 → r ≡ step_line_lem p (at + 4) → r ≡ read_step s at
-    one l k e is so = so ∙ ap (λ (q : Parsed). step_line_lem q (at + 4)) is ∙ sym (short_one_lem s at l k (sym says ∙ e))
+  module _ (w : Short) (says : w ≡ short_line s at) (p : Parsed) (r : StepLine) (l : ℕ) (k : CoreNo) (more : Option UnitNo) (is : w ≡ Some (l, k, more)) where
+    one : more ≡ None → p ≡ one_number l k.0 → r ≡ step_line_lem p (at + 4) → r ≡ read_step s at
+    one e of so = so ∙ ap (λ (q : Parsed). step_line_lem q (at + 4)) of ∙ sym (short_one_lem s at l k (sym says ∙ is ∙ rw e))
 
-    two : (l : ℕ) (k : CoreNo) (u : UnitNo) → w ≡ Two l k u → p ≡ two_numbers_lem l k.0 u.0 → r ≡ step_line_lem p (at + 6) → r ≡ read_step s at
-    two l k u e is so = so ∙ ap (λ (q : Parsed). step_line_lem q (at + 6)) is ∙ sym (short_two_lem s at l k u (sym says ∙ e))
+    two : (u : UnitNo) → more ≡ Some u → p ≡ two_numbers_lem l k.0 u.0 → r ≡ step_line_lem p (at + 6) → r ≡ read_step s at
+    two u e of so = so ∙ ap (λ (q : Parsed). step_line_lem q (at + 6)) of ∙ sym (short_two_lem s at l k u (sym says ∙ is ∙ rw e))
 
-pub returns-in-One : goal.returns-in-One
-returns-in-One c = numbered c.args.s.now c.args.at _ (search one)
+pub returns-in-Some-default-default-None : goal.returns-in-Some-default-default-None
+returns-in-Some-default-default-None c = numbered c.args.s.now c.args.at _ (search one)
 
-pub returns-in-Two : goal.returns-in-Two
-returns-in-Two c = numbered c.args.s.now c.args.at _ (search two)
+pub returns-in-Some-default-default-Some : goal.returns-in-Some-default-default-Some
+returns-in-Some-default-default-Some c = numbered c.args.s.now c.args.at _ (search two)
 
-pub returns-in-Other : goal.returns-in-Other
-returns-in-Other c = numbered c.args.s.now c.args.at _ (search rules)
+pub returns-in-None : goal.returns-in-None
+returns-in-None c = numbered c.args.s.now c.args.at _ (search rules)
