@@ -44,7 +44,10 @@ wrote_header out at letter c n = cond (in_range c) (wrote out at (header_bytes l
 abbrev pub left_header : List ℕ → ℕ → ℕ → Counts → Ticket → List ℕ
 left_header out at letter c n = cond (in_range c) (left out at (header_bytes letter c n)) out
 
--- as the code puts them: a letter and one number, or two
+-- as the code puts them: a letter and its numbers, and so a letter and one number, or two
+abbrev pub letter_line : ℕ → List ℕ → List ℕ
+letter_line letter ns = letter ∷ fields ns
+
 abbrev pub lettered : ℕ → ℕ → List ℕ
 lettered letter k = letter ∷ fields (k ∷ [])
 

@@ -11,24 +11,24 @@ step_lines-requires c =
     let q = c.fresh_run-opened.ensures in
     (ap (λ (r : Run). r.headed) q, sym (ap (λ (r : Run). sound r.table) q ∙ (built_sound c.in-Header.counts c.in-Header.counter).0))
 
-pub returns-in-Next : goal.returns-in-Next
-returns-in-Next c =
+pub returns-in-Ok : goal.returns-in-Ok
+returns-in-Ok c =
     let a = c.args in
     let h = c.in-Header in
     opened_by a.run a.script.now a.out.now c.requires _ h.ensures.0 h.counts h.counter h.next refl _ _
-    (c.in-Next.ensures.0, c.in-Next.ensures.1) c.in-Next.w c.fresh_run-opened.result _ _ refl c.fresh_run-opened.ensures c.step_lines.ensures
+    (c.in-Ok.ensures.0, c.in-Ok.ensures.1) c.in-Ok.w c.fresh_run-opened.result _ _ refl c.fresh_run-opened.ensures c.step_lines.ensures
 
-pub returns-in-OutOfRange : goal.returns-in-OutOfRange
-returns-in-OutOfRange c =
+pub returns-in-Err-OutOfRange : goal.returns-in-Err-OutOfRange
+returns-in-Err-OutOfRange c =
     let a = c.args in
     let h = c.in-Header in
-    absurd (out_of_range a.run a.script.now a.out.now c.requires _ h.ensures.0 h.counts h.counter h.next refl _ _ (c.in-OutOfRange.ensures.0, c.in-OutOfRange.ensures.1) refl)
+    absurd (out_of_range a.run a.script.now a.out.now c.requires _ h.ensures.0 h.counts h.counter h.next refl _ _ (c.in-Err-OutOfRange.ensures.0, c.in-Err-OutOfRange.ensures.1) refl)
 
-pub returns-in-NoRoom : goal.returns-in-NoRoom
-returns-in-NoRoom c =
+pub returns-in-Err-NoRoom : goal.returns-in-Err-NoRoom
+returns-in-Err-NoRoom c =
     let a = c.args in
     let h = c.in-Header in
-    no_room_opening a.run a.script.now a.out.now c.requires _ h.ensures.0 h.counts h.counter h.next refl _ _ (c.in-NoRoom.ensures.0, c.in-NoRoom.ensures.1) refl
+    no_room_opening a.run a.script.now a.out.now c.requires _ h.ensures.0 h.counts h.counter h.next refl _ _ (c.in-Err-NoRoom.ensures.0, c.in-Err-NoRoom.ensures.1) refl
 
 pub returns-in-BadHeader : goal.returns-in-BadHeader
 returns-in-BadHeader c = no_header c.args.run c.args.script.now c.args.out.now c.requires _ c.in-BadHeader.ensures.0 refl
