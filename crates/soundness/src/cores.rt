@@ -12,11 +12,8 @@ pub fn cores_sound(counts: Counts, counter: Ticket, all: [Core; CORES]) -> bool
     ensures { result ≡ every (core_sound counts counter all) cores }
 {
     let mut ok = true;
-    let mut i = 0;
-    while i < CORES {
-        let k = i as u16;
-        ok = ok & core_sound(counts, counter, all, CoreNo(k));
-        i += 1;
+    for i in 0..CORES {
+        ok &= core_sound(counts, counter, all, CoreNo(i as u16));
     }
     ok
 }
@@ -102,16 +99,8 @@ fn names(counts: Counts, c: Core, two: bool) -> bool
 fn half_behind(x: Comparison) -> bool
     ensures { result ≡ half_behind_lem x }
 {
-    match x {
-        // It lies 1 to 32,767 behind.
-        Comparison::Older => true,
-        // It lies 32,769 or more behind.
-        Comparison::Younger => false,
-        // It lies 0 behind: it is what the counter shows, and still to be issued.
-        Comparison::Same => false,
-        // It lies 32,768 behind.
-        Comparison::Opposite => true,
-    }
+    // An older one lies 1 to 32,767 behind, and an opposite one 32,768. The same one is what the counter shows, and still to be issued.
+    matches!(x, Comparison::Older | Comparison::Opposite)
 }
 
 // The own ticket, if it is live, lies 1 to 32,768 behind the counter.
@@ -128,12 +117,8 @@ fn apart(all: [Core; CORES], k: CoreNo, c: Core) -> bool
     ensures { result ≡ every (λ j. differ k.0 c j (get_or all j idle)) cores }
 {
     let mut ok = true;
-    let mut i = 0;
-    while i < CORES {
-        let d = all[i];
-        let j = i as u16;
-        ok = ok & differ(k, c, CoreNo(j), d);
-        i += 1;
+    for (j, d) in all.iter().enumerate() {
+        ok &= differ(k, c, CoreNo(j as u16), *d);
     }
     ok
 }
@@ -148,23 +133,16 @@ fn differ(k: CoreNo, c: Core, j: CoreNo, d: Core) -> bool
     let a = c.own;
     let b = d.own;
     let far = behind(a, b);
-    (k.0 == j.0) | !is_live(s) | !is_live(z) | !(far == 0)
+    (k == j) | !is_live(s) | !is_live(z) | !(far == 0)
 }
 
 // Whether a carried ticket that compares so with the own one reads older.
 fn reads_older(x: Comparison) -> bool
     ensures { result ≡ reads_older_lem x }
 {
-    match x {
-        // It does.
-        Comparison::Older => true,
-        // A later ticket is never inherited.
-        Comparison::Younger => false,
-        // It is the own one, and not inherited.
-        Comparison::Same => false,
-        // Both would be live, and live tickets lie in one half of the circle: the window refuses such a table.
-        Comparison::Opposite => false,
-    }
+    // A later ticket is never inherited, and the same one is the own one. Of two that are opposite both would be live, and live tickets lie in
+    // one half of the circle: the window refuses such a table.
+    x == Comparison::Older
 }
 
 // The carried ticket is the own one, or at the second stage an inherited one.
@@ -175,7 +153,7 @@ fn carries(all: [Core; CORES], c: Core) -> bool
     let own = c.own;
     let carried = c.carried;
     let second = c.second;
-    let same = carried.0 == own.0;
+    let same = carried == own;
     if two_stage(s) {
         same | (lent(all, c) & reads_older(compare(carried, own)))
     } else {
@@ -188,11 +166,8 @@ fn lent(all: [Core; CORES], c: Core) -> bool
     ensures { result ≡ some (λ j. lends c (get_or all j idle)) cores }
 {
     let mut any = false;
-    let mut j = 0;
-    while j < CORES {
-        let d = all[j];
-        any = any | lends(c, d);
-        j += 1;
+    for d in all {
+        any |= lends(c, d);
     }
     any
 }
@@ -206,5 +181,5 @@ fn lends(c: Core, d: Core) -> bool
     let carried = c.carried;
     let a = d.first;
     let b = c.first;
-    unserved(s) & (a.0 == b.0) & (own.0 == carried.0)
+    unserved(s) & (a == b) & (own == carried)
 }

@@ -1,6 +1,6 @@
 // The clauses of one unit: of its registers against any cores whatsoever.
 ghost use Rattle.std.specs.Prelude.{◌≡◌, get_or};
-ghost use Rattle.parts.specs.Fold.{every, count, one};
+ghost use Rattle.parts.specs.Fold.{every, count};
 ghost use Rattle.parts.specs.Parts.{cores, idle, register_in};
 ghost use Rattle.soundness.specs.Agreement.{unit_sound_lem, agrees, flagless, shows, is_blank, one_flag, any_valid};
 
@@ -24,12 +24,8 @@ fn agree(all: [Core; CORES], u: UnitNo, x: LockUnit) -> bool
     ensures { result ≡ every (λ k. agrees (get_or all k idle) u.0 (register_in x k)) cores }
 {
     let mut ok = true;
-    let mut k = 0;
-    while k < CORES {
-        let c = all[k];
-        let r = x.registers[k];
-        ok = ok & agrees(c, u, r);
-        k += 1;
+    for k in 0..CORES {
+        ok &= agrees(all[k], u, x.registers[k]);
     }
     ok
 }
@@ -43,9 +39,9 @@ fn agrees(c: Core, u: UnitNo, r: Register) -> bool
     let carried = c.carried;
     let first = c.first;
     let second = c.second;
-    if stands(s) & (u.0 == first.0) {
+    if stands(s) & (u == first) {
         flagless(s, r) & shows(r, own, holds_first(s))
-    } else if two_stage(s) & (u.0 == second.0) {
+    } else if two_stage(s) & (u == second) {
         shows(r, carried, holds_both(s))
     } else {
         is_blank(r)
@@ -64,7 +60,7 @@ fn shows(r: Register, n: Ticket, held: bool) -> bool
     ensures { result ≡ shows r n held }
 {
     let t = r.ticket;
-    r.valid & (t.0 == n.0) & (r.flag | !held)
+    r.valid & (t == n) & (r.flag | !held)
 }
 
 // A register that nobody stands in: ticket 0, invalid, no flag.
@@ -79,7 +75,7 @@ fn is_blank(r: Register) -> bool
 fn one_flag(x: LockUnit) -> bool
     ensures { result ≡ one_flag x }
 {
-    flags(x) == one(any_valid(x))
+    flags(x) == usize::from(any_valid(x))
 }
 
 // How many flags a unit has set.
@@ -87,31 +83,18 @@ fn flags(x: LockUnit) -> usize
     ensures { result ≡ count (λ k. (register_in x k).flag) cores }
 {
     let mut n = 0;
-    let mut k = 0;
-    while k < CORES {
-        let r = x.registers[k];
-        n += one(r.flag);
-        k += 1;
+    for r in x.registers {
+        n += usize::from(r.flag);
     }
     n
-}
-
-// 1 for yes, 0 for no.
-fn one(b: bool) -> usize
-    ensures { result ≡ one b }
-{
-    if b { 1 } else { 0 }
 }
 
 fn any_valid(x: LockUnit) -> bool
     ensures { result ≡ any_valid x }
 {
     let mut any = false;
-    let mut k = 0;
-    while k < CORES {
-        let r = x.registers[k];
-        any = any | r.valid;
-        k += 1;
+    for r in x.registers {
+        any |= r.valid;
     }
     any
 }

@@ -1,13 +1,8 @@
 -- After i turns, ok says whether the first i cores are sound.
-use Prim.Native.Nat.{◌≤◌, ◌-◌}
 use mathlib.Core.Path.{◌≡◌}
 use Rattle.parts.specs.Fold.{every}
-use Rattle.parts.specs.Parts.{cores}
 use Rattle.soundness.specs.Sound.{core_sound}
 use Rattle.soundness.proofs.cores.cores_sound.Given as goal
 
 abbrev pub invariant-loop-i : goal.invariant-loop-i
-invariant-loop-i l = (l.i ≤ cores) × (l.ok ≡ every (core_sound l.counts l.counter l.all) l.i)
-
-abbrev pub decreases-loop-i : goal.decreases-loop-i
-decreases-loop-i l = cores - l.i
+invariant-loop-i l = l.ok ≡ every (core_sound l.counts l.counter l.all) l.i

@@ -1,5 +1,5 @@
 use borrow.Author.Rules.{rules}
-use Rattle.parts.proofs.Folds.{none, finished}
+use Rattle.parts.proofs.Folds.{none}
 use Rattle.parts.proofs.Loops.{every_more}
 use Rattle.soundness.proofs.units.agree.Goals as goal
 
@@ -8,6 +8,3 @@ loop-k-init c = search (none, rules)
 
 pub loop-k-preserved : goal.loop-k-preserved
 loop-k-preserved c = search (every_more, rules)
-
-pub returns : goal.returns
-returns c = search (finished, rules)

@@ -1,12 +1,9 @@
 use borrow.Author.Rules.{rules}
-use Rattle.parts.proofs.Folds.{none, more, finished}
+use Rattle.parts.proofs.Folds.{none, more}
 use Rattle.soundness.proofs.units.any_valid.Goals as goal
 
-pub loop-k-init : goal.loop-k-init
-loop-k-init c = search (none, rules)
+pub loop-r-init : goal.loop-r-init
+loop-r-init c = search (none, rules)
 
-pub loop-k-preserved : goal.loop-k-preserved
-loop-k-preserved c = search (more, rules)
-
-pub returns : goal.returns
-returns c = search (finished, rules)
+pub loop-r-preserved : goal.loop-r-preserved
+loop-r-preserved c = search (more, rules)
