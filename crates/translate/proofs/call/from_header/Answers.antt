@@ -1,4 +1,5 @@
 -- The case of the header's line that was read, and of the opening line that was written; the table that was built is sound.
+use Rattle.std.specs.Prelude.{Err}
 use mathlib.Core.Path.{refl, sym, ◌∙◌, ap}
 use Rattle.block.specs.Sound.{sound}
 use Rattle.stops.specs.declared.run.Run.{Run}
@@ -22,13 +23,13 @@ pub returns-in-Err-OutOfRange : goal.returns-in-Err-OutOfRange
 returns-in-Err-OutOfRange c =
     let a = c.args in
     let h = c.in-Header in
-    absurd (out_of_range a.run a.script.now a.out.now c.requires _ h.ensures.0 h.counts h.counter h.next refl _ _ (c.in-Err-OutOfRange.ensures.0, c.in-Err-OutOfRange.ensures.1) refl)
+    absurd (out_of_range a.run a.script.now a.out.now c.requires _ h.ensures.0 h.counts h.counter h.next refl _ _ (c.in-Err-OutOfRange.ensures.0, c.in-Err-OutOfRange.ensures.1) (ap Err c.in-Err-OutOfRange.field-0-is))
 
 pub returns-in-Err-NoRoom : goal.returns-in-Err-NoRoom
 returns-in-Err-NoRoom c =
     let a = c.args in
     let h = c.in-Header in
-    no_room_opening a.run a.script.now a.out.now c.requires _ h.ensures.0 h.counts h.counter h.next refl _ _ (c.in-Err-NoRoom.ensures.0, c.in-Err-NoRoom.ensures.1) refl
+    no_room_opening a.run a.script.now a.out.now c.requires _ h.ensures.0 h.counts h.counter h.next refl _ _ (c.in-Err-NoRoom.ensures.0, c.in-Err-NoRoom.ensures.1) (ap Err c.in-Err-NoRoom.field-0-is)
 
 pub returns-in-BadHeader : goal.returns-in-BadHeader
 returns-in-BadHeader c = no_header c.args.run c.args.script.now c.args.out.now c.requires _ c.in-BadHeader.ensures.0 refl
