@@ -1,6 +1,6 @@
 -- The header at a place: "before it, nothing left is 22. A place past the end of the script counts as its end. Header order: 22, 20." Its
 -- line ends as any line does. "Readers take both header letters."
-use Rattle.std.specs.Prelude.{ℕ, cond, List, eqb, get_or}
+use Rattle.std.specs.Prelude.{ℕ, Option, None, Some, cond, List, eqb, get_or}
 use Rattle.ticket.specs.Kinds.{ticket}
 use Rattle.parts.specs.Range.{in_range}
 use Rattle.parts.specs.declared.kinds.Fill.TheVariants.{Blank}
@@ -16,6 +16,10 @@ use Rattle.headers.specs.ParsedHeader.{ParsedHeader}
 use Rattle.headers.specs.ParsedHeader.{Good as GoodHeader, Not as NoHeader}
 use Rattle.headers.specs.HeaderLine.{HeaderLine}
 use Rattle.headers.specs.HeaderLine.{Header, BadHeader, Unfinished as Unended}
+
+-- a number that a tab ends, and the place after it
+abbrev pub number_then : Field → Option (ℕ × ℕ)
+number_then f = elim f [ Bad ↦ None | Last v ↦ None | Then v i ↦ Some (v, i) ]
 
 -- number by number, with the profile and what was read before it
 abbrev pub with_counter_lem : Profile → ℕ → ℕ → ℕ → Field → ParsedHeader

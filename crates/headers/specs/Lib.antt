@@ -1,1 +1,3 @@
+pub mod ParsedHeader
+pub mod HeaderLine
 pub mod Header

@@ -1,20 +1,13 @@
--- The line that `line_end` gives lies within the script. The answer carries the number that is due.
-use mathlib.Core.List.{List}
-use mathlib.Core.Path.{◌≡◌, ap, ◌∙◌}
-use Prim.Native.Nat.{ℕ}
+-- The line whose end `line_end` gives lies within the script.
 use borrow.Author.Rules.{rules}
-use Rattle.headers.specs.Header.{read_header, header_line_number, header_number}
-use Rattle.headers.specs.HeaderLine.{HeaderLine}
 use Rattle.lines.proofs.Turns.{found_within}
-use Rattle.headers.proofs.Numbers.{header_number_lem}
 use Rattle.headers.proofs.reading.header_line_at.Goals as goal
 
--- the answer, and with it its number
-numbered : (s : List ℕ) (at : ℕ) (r : HeaderLine) → r ≡ read_header s at → (r ≡ read_header s at) × (header_line_number r ≡ header_number s at)
-numbered s at r is = (is, ap header_line_number is ∙ header_number_lem s at)
+pub slice_bounds-parse_header-count : goal.slice_bounds-parse_header-count
+slice_bounds-parse_header-count c = search (found_within, rules)
 
-pub header_at-requires : goal.header_at-requires
-header_at-requires c = found_within _ _ _ _ c.if-s-at.false c.line_end.ensures c.in-At.is
+pub slice_bounds-parse_header-start : goal.slice_bounds-parse_header-start
+slice_bounds-parse_header-start c = search (found_within, rules)
 
-pub returns-in-At : goal.returns-in-At
-returns-in-At c = numbered c.args.s.now c.args.at _ (search rules)
+pub slice_bounds-parse_header-end : goal.slice_bounds-parse_header-end
+slice_bounds-parse_header-end c = search (found_within, rules)
