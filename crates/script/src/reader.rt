@@ -28,7 +28,7 @@ pub struct ReadOn<'a> {
 fn bytes_from(s: &[u8], at: usize) -> usize
     ensures { result ≡ bytes_from_lem s.now at }
 {
-    if s.len() <= at { 0 } else { s.len() - at }
+    s.len().saturating_sub(at)
 }
 
 // Where the line after a step line starts: where it says, or, where there was no step line, at the same place.
@@ -36,10 +36,8 @@ fn place_after(line: StepLine, at: usize) -> usize
     ensures { result ≡ place_after_lem line at }
 {
     match line {
-        StepLine::Line(_, next) => next,
-        StepLine::Finished => at,
-        StepLine::Malformed => at,
-        StepLine::Unfinished => at,
+        Ok(Some((_, next))) => next,
+        Ok(None) | Err(_) => at,
     }
 }
 
@@ -76,16 +74,11 @@ impl<'a> ScriptReader<'a> {
     pub fn next(self) -> ReadOn<'a>
         ensures { (result ≡ read_on self.entry) × (step_line_number result.line ≡ step_number self.entry.script.now self.entry.place) }
     {
-        let script = self.script;
-        let place = self.place;
-        let line = step_line_at(script, place);
-        let next = place_after(line, place);
+        let line = step_line_at(self.script, self.place);
+        let place = place_after(line, self.place);
         ReadOn {
             line,
-            reader: ScriptReader {
-                script,
-                place: next,
-            },
+            reader: ScriptReader::open(self.script, place),
         }
     }
 }
