@@ -15,8 +15,7 @@ use stops::STEPS_MOST;
 fn workable(steps: u64) -> u64
     ensures { (result ≡ workable steps) × (result ≤ steps_most) }
 {
-    let most = STEPS_MOST as u64;
-    if steps < most { steps } else { most }
+    steps.min(u64::from(STEPS_MOST))
 }
 
 // The bytes to set aside for a script with so many step lines.
