@@ -1,13 +1,12 @@
 -- What the tests of an image say: of the number of words, of each word, of each unit's next in line, and of each register that is written.
 use Prim.Native.Nat.{ℕ, ◌+◌, ◌*◌, ◌<◌}
-use mathlib.Core.Bool.{Bool, true, false, ◌&&◌, not}
+use mathlib.Core.Bool.{Bool, true, ◌&&◌, not}
 use mathlib.Core.List.{List}
-use mathlib.Core.Path.{◌≡◌, refl, sym, ◌∙◌, ap}
+use mathlib.Core.Path.{◌≡◌, refl}
 use lib.Dec.{eqb}
 use lib.ListN.{length}
-use borrow.Author.Tests.{eqb-true, not-true, not-false}
+use borrow.Author.Tests.{eqb-true}
 use Rattle.parts.specs.Fold.{every}
-use Rattle.parts.specs.Range.{in_range}
 use Rattle.parts.specs.declared.kinds.Counts.{Counts}
 use Rattle.parts.specs.declared.kinds.LockUnit.{LockUnit}
 use Rattle.parts.proofs.Bools.{and_left, and_right}
@@ -67,19 +66,3 @@ waiter_packable (Won k t) held = refl
 
 pub next_packable : (n : ℕ) (x : LockUnit) → packable (waiter (next_of n x)) ≡ true
 next_packable n x = waiter_packable (next n x) (not (eqb (flags n x) 0))
-
--- a test of as many as there are, where there are as many as there should be
-pub counted : (p : ℕ → Bool) (m n : ℕ) → (eqb m n && every p m) ≡ (eqb m n && every p n)
-counted p m n = go (eqb m n) refl
-  where
-    go : (b : Bool) → eqb m n ≡ b → (b && every p m) ≡ (b && every p n)
-    go true e = ap (every p) (eqb-true m n e)
-    go false e = refl
-
--- counts that were found in range, by the test that the code made
-module _ (c : Counts) (b : Bool) (says : b ≡ in_range c) where
-  pub in_range_lem : not b ≡ false → in_range c ≡ true
-  in_range_lem e = sym says ∙ not-false b e
-
-  pub not_in_range : not b ≡ true → in_range c ≡ false
-  not_in_range e = sym says ∙ not-true b e

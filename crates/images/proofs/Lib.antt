@@ -1,3 +1,4 @@
+pub mod Tests
 pub mod Ranges
 pub mod Good
 pub mod Places

@@ -25,10 +25,11 @@ use Rattle.words.specs.Word.{packable, word_of, register_of, is_good}
 use Rattle.words.proofs.Good.{narrow, good_packable}
 use Rattle.words.proofs.Bits.{word_register, register_word}
 use Rattle.words.proofs.ReadsBack.{shows_good}
-use Rattle.images.specs.Image.{per_unit, unit_count, word_count, unit_in, waiter, placed, register_at, image_answer, word_at, good_words, entered, unit_of, units_of, next_agrees, good_image, read_image, writable, words_into, write_left}
+use Rattle.images.specs.Image.{per_unit, unit_count, word_count, unit_in, waiter, placed, register_at, image_answer, write_answer, word_at, good_words, entered, unit_of, units_of, next_agrees, good_image, read_image, writable, words_into, write_left}
 use Rattle.images.specs.Claims.{ImageReadsBack, ImageIsWritten, PastUnread}
-use Rattle.images.specs.declared.image.Image.{Image}
-use Rattle.images.specs.declared.image.ImageAnswer.TheVariants.{Done, OutOfRange, BadImage}
+use Rattle.std.specs.Prelude.{Result, Ok, Err}
+use Rattle.images.specs.declared.image.ImageRefusal.{ImageRefusal}
+use Rattle.images.specs.declared.image.ImageRefusal.TheVariants.{OutOfRange, BadImage}
 use Rattle.images.proofs.Ranges.{core_place_lem, last_place, word_in}
 use Rattle.images.proofs.Good.{good_word, word_total, word_good, all_words, next_word, room_total, register_packable, unit_shows, next_packable}
 use Rattle.images.proofs.Places.{Written, written, by_unit, by_place, at_core, at_last, at_place, unit_is, register_is}
@@ -166,22 +167,21 @@ module _ (c : Counts) (ranged : in_range c ≡ true) where
 
 -- The two functions, one after the other
 
--- 0 is answered where both tests were passed
-passed : (a b : Bool) → cond a (cond b Done BadImage) OutOfRange ≡ Done → (a ≡ true) × (b ≡ true)
-passed true true e = (refl, refl)
-passed true false e = let z : ◌≡◌ {A = ℕ} 0 1 = cc in absurd (omega arith)
-passed false b e = let z : ◌≡◌ {A = ℕ} 0 1 = cc in absurd (omega arith)
+-- something is given where both tests were passed
+passed :
+    {A : Type 0} (a b : Bool) (x y : A) →
+    ◌≡◌ {A = Result A ImageRefusal} (cond a (cond b (Ok x) (Err BadImage)) (Err OutOfRange)) (Ok y) →
+    (a ≡ true) × (b ≡ true) × (x ≡ y)
+passed true true x y e = (refl, refl, cc)
+passed true false x y e = cc
+passed false b x y e = cc
 
 module _ (c : Counts) where
-  reads :
-      (ws : List ℕ) →
-      in_range c ≡ true →
-      good_image c ws ≡ true →
-      read_image c ws ≡ record { units = units_of c ws; answer = Done }
+  reads : (ws : List ℕ) → in_range c ≡ true → good_image c ws ≡ true → read_image c ws ≡ Ok (units_of c ws)
   reads ws e f = rw (e, f)
 
   module _ (xs : List LockUnit) (out : List ℕ) (e : in_range c ≡ true) (f : writable c xs (length out) ≡ true) where
-    writes : image_answer c (writable c xs (length out)) ≡ Done
+    writes : write_answer c xs (length out) ≡ Ok tt
     writes = rw (e, f)
 
     leaves : write_left c xs out ≡ words_into c xs out
@@ -189,23 +189,20 @@ module _ (c : Counts) where
 
 pub write_read : ImageReadsBack
 write_read c xs out low done =
-    let p = passed (in_range c) (writable c xs (length out)) done in
-    let l = leaves c xs out p.0 p.1 in
-    let r = ap (read_image c) l ∙ reads c (words_into c xs out) p.0 (written_good c p.0 xs out p.1 low) in (
-      ap (λ (x : Image). x.answer) r,
-      λ i h. ap (λ (x : Image). register_at c x.units i) r ∙ written_registers c p.0 xs out p.1 low i h,
-      λ u h. ap (λ (x : Image). (unit_in x.units u).next) r ∙ written_next c p.0 xs out p.1 low u h,
+    let p = passed (in_range c) (writable c xs (length out)) tt tt done in
+    let ws = words_into c xs out in (
+      units_of c ws,
+      ap (read_image c) (leaves c xs out p.0 p.1) ∙ reads c ws p.0 (written_good c p.0 xs out p.1 low),
+      written_registers c p.0 xs out p.1 low,
+      written_next c p.0 xs out p.1 low,
     )
 
 pub read_write : ImageIsWritten
-read_write c ws out same done =
-    let p = passed (in_range c) (good_image c ws) done in
-    let r = reads c ws p.0 p.1 in
+read_write c ws out xs same done =
+    let p = passed (in_range c) (good_image c ws) (units_of c ws) xs done in
     let able = read_writable c p.0 ws out p.1 same in (
-      ap (λ (x : Image). image_answer c (writable c x.units (length out))) r ∙ writes c (units_of c ws) out p.0 able,
-      ap (λ (x : Image). write_left c x.units out) r ∙
-          leaves c (units_of c ws) out p.0 able ∙
-          read_words c p.0 ws out p.1 same,
+      ap (λ (x : List LockUnit). write_answer c x (length out)) (sym p.2) ∙ writes c (units_of c ws) out p.0 able,
+      ap (λ (x : List LockUnit). write_left c x out) (sym p.2) ∙ leaves c (units_of c ws) out p.0 able ∙ read_words c p.0 ws out p.1 same,
     )
 
 -- units with the same registers within the counts, and the same next in line
@@ -242,7 +239,7 @@ module _
 
 pub past_unread : PastUnread
 past_unread c xs ys out alike next-alike = (
-  ap (image_answer c) (same_writable c xs ys out alike next-alike),
+  ap (λ (b : Bool). image_answer c b tt) (same_writable c xs ys out alike next-alike),
   ap₂ (λ (b : Bool) (o : List ℕ). cond (in_range c && b) o out) (same_writable c xs ys out alike next-alike)
       (same_words c xs ys out alike next-alike),
 )

@@ -4,7 +4,7 @@
 -- stands past the counts isn't read." "A unit's image gains one word after its cores: ticket in bits 0 to 15, bit 16 set if there is a waiter,
 -- otherwise 0"; "30 refuses an image without it, or with any word but that of a flagless register older than all other flagless ones (0 if none)"
 -- (document 02, wish 7).
-use Rattle.std.specs.Prelude.{ℕ, ◌+◌, ◌*◌, ◌/◌, ◌%◌, Bool, false, cond, ◌&&◌, List, eqb, length, get_or, set, replicate}
+use Rattle.std.specs.Prelude.{ℕ, ◌+◌, ◌*◌, ◌/◌, ◌%◌, Bool, false, cond, ◌&&◌, List, eqb, length, get_or, set, replicate, Result, Ok, Err}
 use Rattle.parts.specs.Fold.{up_to, every}
 use Rattle.parts.specs.Parts.{units, absent_unit, empty_unit_lem, register_in, registered}
 use Rattle.parts.specs.Range.{in_range}
@@ -14,9 +14,8 @@ use Rattle.parts.specs.declared.kinds.LockUnit.{LockUnit}
 use Rattle.parts.specs.declared.kinds.Counts.{Counts}
 use Rattle.settling.specs.Shown.{shown, shows_next_lem}
 use Rattle.words.specs.Word.{packable, word_of, register_of, is_good}
-use Rattle.images.specs.declared.image.Image.{Image}
-use Rattle.images.specs.declared.image.ImageAnswer.{ImageAnswer}
-use Rattle.images.specs.declared.image.ImageAnswer.TheVariants.{Done, OutOfRange, BadImage}
+use Rattle.images.specs.declared.image.ImageRefusal.{ImageRefusal}
+use Rattle.images.specs.declared.image.ImageRefusal.TheVariants.{OutOfRange, BadImage}
 
 -- how many words a unit's image has, and that of all units of these counts
 abbrev pub per_unit : Counts → ℕ
@@ -47,9 +46,9 @@ placed c x k = cond (eqb k c.cores) (waiter x.next) (register_in x k)
 abbrev pub register_at : Counts → List LockUnit → ℕ → Register
 register_at c xs i = placed c (unit_in xs (i / per_unit c)) (i % per_unit c)
 
--- the answer, by whether what is read or written is good: 20 before 30
-abbrev pub image_answer : Counts → Bool → ImageAnswer
-image_answer c good = cond (in_range c) (cond good Done BadImage) OutOfRange
+-- the answer, by whether what is read or written is good, with what it gives then: 20 before 30
+abbrev pub image_answer : {A : Type 0} → Counts → Bool → A → Result A ImageRefusal
+image_answer c good x = cond (in_range c) (cond good (Ok x) (Err BadImage)) (Err OutOfRange)
 
 -- Reading
 
@@ -79,11 +78,8 @@ abbrev pub good_image : Counts → List ℕ → Bool
 good_image c ws = good_words c ws && every (next_agrees c ws) (unit_count c)
 
 -- where an image is refused, no unit is shown
-abbrev pub refused : ImageAnswer → Image
-refused a = record { units = empty_units_lem; answer = a }
-
-abbrev pub read_image : Counts → List ℕ → Image
-read_image c ws = record { units = cond (in_range c && good_image c ws) (units_of c ws) empty_units_lem; answer = image_answer c (good_image c ws) }
+abbrev pub read_image : Counts → List ℕ → Result (List LockUnit) ImageRefusal
+read_image c ws = image_answer c (good_image c ws) (units_of c ws)
 
 -- Writing
 
@@ -92,6 +88,9 @@ writable c xs room =
     eqb room (word_count c) &&
     every (λ (i : ℕ). packable (register_at c xs i)) (word_count c) &&
     every (λ (u : ℕ). shows_next_lem c.cores (unit_in xs u)) (unit_count c)
+
+abbrev pub write_answer : Counts → List LockUnit → ℕ → Result Unit ImageRefusal
+write_answer c xs room = image_answer c (writable c xs room) tt
 
 -- the words that the room holds then, and what it holds in any case
 abbrev pub words_into : Counts → List LockUnit → List ℕ → List ℕ
@@ -102,8 +101,8 @@ write_left c xs out = cond (in_range c && writable c xs (length out)) (words_int
 
 -- Document 01's numbers: of an answer; and which is due, 20 before 30
 
-abbrev pub image_number : ImageAnswer → ℕ
-image_number a = elim a [ Done ↦ 0 | OutOfRange ↦ 20 | BadImage ↦ 30 ]
+abbrev pub image_number : {A : Type 0} → Result A ImageRefusal → ℕ
+image_number a = elim a [ Ok x ↦ 0 | Err OutOfRange ↦ 20 | Err BadImage ↦ 30 ]
 
 abbrev pub due_number : Counts → Bool → ℕ
 due_number c good = cond (in_range c) (cond good 0 30) 20

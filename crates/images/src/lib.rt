@@ -5,4 +5,4 @@
 
 mod image;
 
-pub use image::{Image, ImageAnswer, read_image, write_image};
+pub use image::{ImageRefusal, read_image, write_image};

@@ -1,6 +1,6 @@
--- After u turns, the first u units are read, and ok says whether their next words are those of their
--- registers.
-use Prim.Native.Nat.{ℕ, ◌-◌, ◌≤◌}
+-- After u turns, the first u units are read, and their next words are those of their registers.
+use Prim.Native.Nat.{ℕ}
+use mathlib.Core.Bool.{true}
 use mathlib.Core.List.{List}
 use mathlib.Core.Path.{◌≡◌}
 use lib.ListN.{set}
@@ -17,7 +17,4 @@ abbrev pub first : Counts → List ℕ → ℕ → List LockUnit
 first c ws u = up_to (place c ws) u empty_units_lem
 
 abbrev pub invariant-loop-u : goal.invariant-loop-u
-invariant-loop-u l = (l.u ≤ l.all) × (l.xs ≡ first l.c l.words l.u) × (l.ok ≡ every (next_agrees l.c l.words) l.u)
-
-abbrev pub decreases-loop-u : goal.decreases-loop-u
-decreases-loop-u l = l.all - l.u
+invariant-loop-u l = (l.xs ≡ first l.c l.words l.u) × (true ≡ every (next_agrees l.c l.words) l.u)

@@ -1,8 +1,8 @@
 -- After i turns, the first i words are written.
-use Prim.Native.Nat.{ℕ, ◌-◌, ◌≤◌}
+use Prim.Native.Nat.{ℕ}
 use mathlib.Core.List.{List}
 use mathlib.Core.Path.{◌≡◌}
-use lib.ListN.{length, set}
+use lib.ListN.{set}
 use Rattle.parts.specs.Fold.{up_to}
 use Rattle.parts.specs.declared.kinds.Counts.{Counts}
 use Rattle.parts.specs.declared.kinds.LockUnit.{LockUnit}
@@ -14,7 +14,4 @@ abbrev pub put : Counts → List LockUnit → ℕ → List ℕ → List ℕ
 put c xs i o = set o i (word_of (register_at c xs i))
 
 abbrev pub invariant-loop-i : goal.invariant-loop-i
-invariant-loop-i l = (l.i ≤ length l.initial.out) × (length l.out ≡ length l.initial.out) × (l.out ≡ up_to (put l.c l.units) l.i l.initial.out)
-
-abbrev pub decreases-loop-i : goal.decreases-loop-i
-decreases-loop-i l = length l.initial.out - l.i
+invariant-loop-i l = l.out ≡ up_to (put l.c l.units) l.i l.initial.out
