@@ -6,7 +6,7 @@ use mathlib.Core.List.{List, [], ◌∷◌}
 use mathlib.Core.Path.{◌≡◌, refl, sym, ◌∙◌, ap}
 use native.Mathlib.Omega.{arith}
 use lib.ListN.{length, get_or, take}
-use Rattle.std.proofs.Math.Bool.{and_assoc}
+use Rattle.std.proofs.Math.Bool.{and_assoc, and-true}
 use Rattle.std.specs.List.{list_all, range_with_len}
 use Rattle.std.proofs.lemmas.List.{get_or-take, length-take-le}
 use Rattle.std.proofs.lemmas.List.FromFn.{get_or-range_with_len, length-range_with_len}
@@ -14,14 +14,10 @@ use Rattle.parts.specs.Fold.{up_to, every}
 use Rattle.parts.proofs.Bools.{clash}
 use Rattle.parts.proofs.Folds.{every_at, every_cong}
 
-and_true : (a : Bool) → a ≡ (a && true)
-and_true true = refl
-and_true false = refl
-
 -- the first test apart
 from_front : (p : ℕ → Bool) (n : ℕ) → every p (suc n) ≡ (p 0 && every (λ (k : ℕ). p (suc k)) n)
 unfolding up_to
-from_front p zero = and_true (p 0)
+from_front p zero = sym (and-true (p 0))
 from_front p (suc n) = ap (λ (b : Bool). b && p (suc n)) (from_front p n) ∙ and_assoc (p 0) (every (λ (k : ℕ). p (suc k)) n) (p (suc n))
 
 module _ {X : Type 0} (test : X → Bool) (d : X) where

@@ -24,8 +24,7 @@ pub enum ImageRefusal {
 fn per_unit(c: Counts) -> usize
     ensures { result ≡ per_unit c }
 {
-    let cores = usize::from(c.cores);
-    cores + 1
+    usize::from(c.cores) + 1
 }
 
 fn unit_count(c: Counts) -> usize
@@ -154,9 +153,8 @@ fn all_show(c: Counts, units: [LockUnit; UNITS]) -> bool
     requires { in_range c ≡ true }
     ensures { result ≡ every (λ u. shows_next_lem c.cores (unit_in units u)) (unit_count c) }
 {
-    units[..unit_count(c)]
-        .iter()
-        .all(|&x| shows_next(c.cores, x))
+    let within = &units[..unit_count(c)];
+    within.iter().all(|&x| shows_next(c.cores, x))
 }
 
 // Whether the units can be written as an image into this room.
