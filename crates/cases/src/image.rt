@@ -6,7 +6,7 @@ use crate::next::put_next;
 use crate::register::put_register;
 use crate::table::{IMAGE_UNITS, counts, units};
 use crate::text::{field, head};
-use images::ImageAnswer;
+use images::ImageRefusal;
 use parts::{CORES, LockUnit, UNITS};
 
 // The most words that a case reads or lends.
@@ -18,12 +18,11 @@ fn room() -> [u32; WORDS_MOST]
     [0; WORDS_MOST]
 }
 
-// Document 01's number for an image's answer.
-fn image_number(a: ImageAnswer) -> u32 {
-    match a {
-        ImageAnswer::Done => 0,
-        ImageAnswer::OutOfRange => 20,
-        ImageAnswer::BadImage => 30,
+// Document 01's number for an image's refusal.
+fn refusal_number(e: ImageRefusal) -> u32 {
+    match e {
+        ImageRefusal::OutOfRange => 20,
+        ImageRefusal::BadImage => 30,
     }
 }
 
@@ -53,17 +52,14 @@ fn read_words(s: &[u8], ws: &mut [u32]) {
 // The image of so many words as are lent for it.
 fn reading(s: &[u8], ws: &mut [u32], out: &mut [u8], wrote: usize) -> usize {
     read_words(s, ws);
-    let c = counts(s);
-    let x = images::read_image(c, ws);
-    let a = x.answer;
-    let n = image_number(a);
-    let to = head(out, wrote, letter(s), n);
-    if n != 0 {
-        return to;
+    match images::read_image(counts(s), ws) {
+        Ok(units) => {
+            let to = head(out, wrote, letter(s), 0);
+            let each = half(s, 1) as usize + 1;
+            put_image(out, to, units, each, ws.len())
+        }
+        Err(e) => head(out, wrote, letter(s), refusal_number(e)),
     }
-    let units = x.units;
-    let each = half(s, 1) as usize + 1;
-    put_image(out, to, units, each, ws.len())
 }
 
 // What the first n words of an image say, in its order, where a unit has so many words each.
@@ -111,13 +107,13 @@ pub(crate) fn answer_writing(s: &[u8], out: &mut [u8], wrote: usize) -> usize {
 
 // The image written into the words lent.
 fn writing(s: &[u8], ws: &mut [u32], out: &mut [u8], wrote: usize) -> usize {
-    let a = images::write_image(counts(s), units(s, IMAGE_UNITS), ws);
-    let n = image_number(a);
-    let to = head(out, wrote, letter(s), n);
-    if n != 0 {
-        return to;
+    match images::write_image(counts(s), units(s, IMAGE_UNITS), ws) {
+        Ok(()) => {
+            let to = head(out, wrote, letter(s), 0);
+            put_words(out, to, ws)
+        }
+        Err(e) => head(out, wrote, letter(s), refusal_number(e)),
     }
-    put_words(out, to, ws)
 }
 
 fn put_words(out: &mut [u8], at: usize, ws: &[u32]) -> usize {
