@@ -8,12 +8,11 @@ ghost use Rattle.settling.specs.InFront.{InOrder, unless_away, present, before, 
 
 use crate::line::{Best, in_line, next_of};
 use crate::next::shown_as;
-use crate::pairs::is_older;
 use parts::{CORES, Core, LockUnit, Register, blank, dropped, is_away, showing};
-use ticket::{Ticket, compare};
+use ticket::{Comparison, Ticket, compare};
 
 // A unit and the cores of its table.
-#[derive(Clone, Copy)]
+#[derive(Clone, Copy, Debug, PartialEq, Eq)]
 pub struct Dropping {
     pub unit: LockUnit,
     pub cores: [Core; CORES],
@@ -23,8 +22,7 @@ pub struct Dropping {
 fn unless_away(c: Core, r: Register) -> Register
     ensures { result ≡ unless_away c r }
 {
-    let s = c.state;
-    if is_away(s) { blank() } else { r }
+    if is_away(c.state) { blank() } else { r }
 }
 
 // The unit without those of the first n cores who are away.
@@ -33,13 +31,8 @@ fn present(n: u16, unit: LockUnit, all: [Core; CORES]) -> LockUnit
     ensures { result ≡ present n unit all }
 {
     let mut x = unit;
-    let mut k = 0;
-    while k < n {
-        let i = k as usize;
-        let c = all[i];
-        let r = x.registers[i];
-        x.registers[i] = unless_away(c, r);
-        k += 1;
+    for i in 0..usize::from(n) {
+        x.registers[i] = unless_away(all[i], x.registers[i]);
     }
     x
 }
@@ -48,19 +41,14 @@ fn present(n: u16, unit: LockUnit, all: [Core; CORES]) -> LockUnit
 fn before(first: Best, t: Ticket) -> bool
     ensures { result ≡ before first t }
 {
-    match first {
-        None => true,
-        Some((_, w)) => is_older(compare(t, w)),
-    }
+    first.is_none_or(|(_, w)| compare(t, w) == Comparison::Older)
 }
 
 // Whether core c, whose register is r, is dropped.
 fn goes(first: Best, c: Core, r: Register) -> bool
     ensures { result ≡ goes first c r }
 {
-    let s = c.state;
-    let t = r.ticket;
-    in_line(r) & is_away(s) & before(first, t)
+    in_line(r) & is_away(c.state) & before(first, r.ticket)
 }
 
 // The unit and the cores after those of the first n are dropped who are away and stand before whoever is first.
@@ -70,16 +58,11 @@ fn dropped_before(n: u16, first: Best, unit: LockUnit, all: [Core; CORES]) -> Dr
 {
     let mut x = unit;
     let mut left = all;
-    let mut k = 0;
-    while k < n {
-        let i = k as usize;
-        let c = left[i];
-        let r = x.registers[i];
-        if goes(first, c, r) {
+    for i in 0..usize::from(n) {
+        if goes(first, left[i], x.registers[i]) {
             x.registers[i] = blank();
-            left[i] = dropped(c);
+            left[i] = dropped(left[i]);
         }
-        k += 1;
     }
     Dropping {
         unit: x,
@@ -93,7 +76,6 @@ pub fn drop_away(n: u16, unit: LockUnit, all: [Core; CORES]) -> Dropping
     ensures { result ≡ showing_next n (drop_away n unit all) }
 {
     let first = next_of(n, present(n, unit, all));
-    let v = unit.next;
-    let x = showing(unit, shown_as(first, v.held));
+    let x = showing(unit, shown_as(first, unit.next.held));
     dropped_before(n, first, x, all)
 }

@@ -17,14 +17,8 @@ pub type Best = Option<(CoreNo, Ticket)>;
 pub fn stored(v: Next) -> Best
     ensures { result ≡ stored v }
 {
-    let t = v.ticket;
-    let k = v.core;
-    let i = k.0 as usize;
-    if v.valid & (i < CORES) {
-        Some((k, t))
-    } else {
-        None
-    }
+    let shown = v.valid & (usize::from(v.core.0) < CORES);
+    shown.then_some((v.core, v.ticket))
 }
 
 // Whether a register stands in line: valid, with its flag clear.
@@ -34,26 +28,16 @@ pub(crate) fn in_line(r: Register) -> bool
     r.valid & !r.flag
 }
 
-// Core k, in line with the ticket t, wins if it did not lose to another.
-fn unless(lost: bool, k: CoreNo, t: Ticket, best: Best) -> Best
-    ensures { result ≡ cond lost best (Won k t) }
-{
-    if lost { best } else { Some((k, t)) }
-}
-
 // Of the first c in line, `who` at their places, the one that did not lose.
 fn unbeaten(who: &[u16], line: &[u16], c: usize, lost: &[bool]) -> Best
     requires { (c ≤ length who.now) × (c ≤ length line.now) × (c ≤ length lost.now) }
     ensures { result ≡ up_to (kept who.now line.now lost.now) c Nobody }
 {
     let mut best = None;
-    let mut a = 0;
-    while a < c {
-        let k = who[a];
-        let t = line[a];
-        let b = lost[a];
-        best = unless(b, CoreNo(k), Ticket(t), best);
-        a += 1;
+    for a in 0..c {
+        if !lost[a] {
+            best = Some((CoreNo(who[a]), Ticket(line[a])));
+        }
     }
     best
 }
@@ -64,23 +48,18 @@ pub fn next_of(n: u16, x: LockUnit) -> Best
     requires { n ≤ cores }
     ensures { result ≡ next n x }
 {
-    let m = n as usize;
     let mut who = [0; CORES];
     let mut line = [0; CORES];
     let mut lost = [false; CORES];
     let mut c = 0;
-    let mut j = 0;
-    while j < m {
-        let r = x.registers[j];
+    for j in 0..n {
+        let r = x.registers[usize::from(j)];
         if in_line(r) {
-            let t = r.ticket;
-            let last = column(&line, c, t, &mut lost);
-            who[c] = j as u16;
-            line[c] = t.0;
-            lost[c] = last;
+            lost[c] = column(&line, c, r.ticket, &mut lost);
+            who[c] = j;
+            line[c] = r.ticket.0;
             c += 1;
         }
-        j += 1;
     }
     unbeaten(&who, &line, c, &lost)
 }

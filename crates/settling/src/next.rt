@@ -23,14 +23,10 @@ fn free(n: u16, x: LockUnit) -> bool
     requires { n ≤ cores }
     ensures { result ≡ eqb (flags n x) 0 }
 {
-    let mut k = 0;
-    while k < n {
-        let i = k as usize;
-        let r = x.registers[i];
+    for r in &x.registers[..usize::from(n)] {
         if r.flag {
             return false;
         }
-        k += 1;
     }
     true
 }
@@ -40,8 +36,7 @@ pub fn next_shown(n: u16, x: LockUnit) -> Next
     requires { n ≤ cores }
     ensures { result ≡ next_of n x }
 {
-    let clear = free(n, x);
-    shown_as(next_of(n, x), !clear)
+    shown_as(next_of(n, x), !free(n, x))
 }
 
 // Seam: the unit that shows what its first n registers ask for.
@@ -52,27 +47,10 @@ pub fn shown(n: u16, x: LockUnit) -> LockUnit
     showing(x, next_shown(n, x))
 }
 
-fn agree(a: bool, b: bool) -> bool
-    ensures { result ≡ agree a b }
-{
-    if a { b } else { !b }
-}
-
-fn same(v: Next, w: Next) -> bool
-    ensures { result ≡ same v w }
-{
-    let t = v.ticket;
-    let s = w.ticket;
-    let k = v.core;
-    let j = w.core;
-    (t.0 == s.0) & (k.0 == j.0) & agree(v.valid, w.valid) & agree(v.held, w.held)
-}
-
 // Seam: whether a unit shows just what its first n registers ask for.
 pub fn shows_next(n: u16, x: LockUnit) -> bool
     requires { n ≤ cores }
     ensures { result ≡ shows_next_lem n x }
 {
-    let v = x.next;
-    same(v, next_shown(n, x))
+    x.next == next_shown(n, x)
 }

@@ -8,13 +8,12 @@ ghost use Rattle.settling.specs.Settle.{becomes, stay, compared, is_next, enter,
 
 use crate::line::{Best, next_of, stored};
 use crate::next::shown_as;
-use crate::pairs::{is_older, is_younger};
 use parts::{LockUnit, Next, Register, blank, flagged, registered, showing, standing};
-use ticket::{CoreNo, Ticket, compare};
+use ticket::{Comparison, CoreNo, Ticket, compare};
 
 // What becomes of a unit in which a core moves: the core's register, what the unit shows, and who gets its flag. With
 // `repick` the next in line went away, and the pairs are gone through for another.
-#[derive(Clone, Copy)]
+#[derive(Clone, Copy, Debug, PartialEq, Eq)]
 pub struct Change {
     pub register: Register,
     pub next: Next,
@@ -45,14 +44,8 @@ fn compared(b: Best, k: CoreNo, t: Ticket) -> Best
     ensures { result ≡ compared b k t }
 {
     match b {
-        None => Some((k, t)),
-        Some((_, s)) => {
-            if is_older(compare(t, s)) {
-                Some((k, t))
-            } else {
-                b
-            }
-        }
+        Some((_, s)) if compare(t, s) != Comparison::Older => b,
+        _ => Some((k, t)),
     }
 }
 
@@ -60,8 +53,7 @@ fn compared(b: Best, k: CoreNo, t: Ticket) -> Best
 fn is_next(v: Next, k: CoreNo) -> bool
     ensures { result ≡ is_next v k }
 {
-    let j = v.core;
-    v.valid & (j.0 == k.0)
+    v.valid & (v.core == k)
 }
 
 // Seam: core k enters a unit with a ticket. One that has a flag set lets it stand, and it is compared with the next in
@@ -71,8 +63,7 @@ pub fn enter(v: Next, k: CoreNo, t: Ticket) -> Change
 {
     let r = standing(t);
     if v.held {
-        let b = compared(stored(v), k, t);
-        becomes(r, shown_as(b, true), None, false)
+        becomes(r, shown_as(compared(stored(v), k, t), true), None, false)
     } else {
         becomes(flagged(r), shown_as(None, true), Some((k, t)), false)
     }
@@ -82,10 +73,8 @@ pub fn enter(v: Next, k: CoreNo, t: Ticket) -> Change
 fn passed(b: Best) -> Change
     ensures { result ≡ passed b }
 {
-    match b {
-        None => becomes(blank(), shown_as(b, false), b, false),
-        Some(_) => becomes(blank(), shown_as(None, true), b, true),
-    }
+    let to = b.is_some();
+    becomes(blank(), shown_as(None, to), b, to)
 }
 
 // Seam: core k gives up its register. If its flag was set, the next in line gets it.
@@ -104,11 +93,10 @@ pub fn carry(v: Next, k: CoreNo, t: Ticket) -> Change
     ensures { result ≡ carry v k t }
 {
     let r = standing(t);
-    let s = v.ticket;
     if !is_next(v, k) {
         return becomes(r, shown_as(compared(stored(v), k, t), true), None, false);
     }
-    if is_younger(compare(t, s)) {
+    if compare(t, v.ticket) == Comparison::Younger {
         becomes(r, v, None, true)
     } else {
         becomes(r, shown_as(Some((k, t)), true), None, false)
@@ -119,20 +107,14 @@ pub fn carry(v: Next, k: CoreNo, t: Ticket) -> Change
 pub fn passed_to(b: Best, k: CoreNo) -> CoreNo
     ensures { result ≡ passed_to_lem b k }
 {
-    match b {
-        None => k,
-        Some((j, _)) => j,
-    }
+    b.map_or(k, |(j, _)| j)
 }
 
 // Seam: that core's register: its flag is set, if anybody's is.
 pub fn with_flag(r: Register, b: Best) -> Register
     ensures { result ≡ with_flag r b }
 {
-    match b {
-        None => r,
-        Some(_) => flagged(r),
-    }
+    if b.is_some() { flagged(r) } else { r }
 }
 
 // Seam: what a unit that has a flag set shows, found by the pairs.
@@ -148,12 +130,10 @@ fn resettled(n: u16, x: LockUnit, k: CoreNo, c: Change) -> LockUnit
     requires { (n ≤ cores) × (k.0 < cores) × Within c.winner }
     ensures { result ≡ resettled n c x }
 {
-    let b = c.winner;
-    let w = passed_to(b, k);
-    let i = w.0 as usize;
-    let r = x.registers[i];
     if c.repick {
-        let y = registered(x, w, with_flag(r, b));
+        let w = passed_to(c.winner, k);
+        let r = x.registers[usize::from(w.0)];
+        let y = registered(x, w, with_flag(r, c.winner));
         showing(y, repicked(n, y))
     } else {
         x
@@ -165,7 +145,5 @@ pub fn changed(n: u16, x: LockUnit, k: CoreNo, c: Change) -> LockUnit
     requires { (n ≤ cores) × (k.0 < cores) × Within c.winner }
     ensures { result ≡ changed n k c x }
 {
-    let r = c.register;
-    let v = c.next;
-    resettled(n, showing(registered(x, k, r), v), k, c)
+    resettled(n, showing(registered(x, k, c.register), c.next), k, c)
 }

@@ -1,12 +1,9 @@
 use borrow.Author.Rules.{rules}
-use Rattle.settling.proofs.InFront.{present_first, present_on, present_last}
+use Rattle.settling.proofs.InFront.{present_first, present_on}
 use Rattle.settling.proofs.dropping.present.Goals as goal
 
-pub loop-k-init : goal.loop-k-init
-loop-k-init c = search (present_first, rules)
+pub loop-i-init : goal.loop-i-init
+loop-i-init c = search (present_first, rules)
 
-pub loop-k-preserved : goal.loop-k-preserved
-loop-k-preserved c = search (present_on, rules)
-
-pub returns : goal.returns
-returns c = search (present_last, rules)
+pub loop-i-preserved : goal.loop-i-preserved
+loop-i-preserved c = search (present_on, rules)

@@ -40,16 +40,23 @@ module _ (x : LockUnit) (m j c : ℕ) (who tickets : List ℕ) (few : m ≤ core
   tickets_enough : c ≤ j → c ≤ length tickets
   tickets_enough low = omega (arith, tickets_long)
 
-  -- after the turn of core j, by whether it stands in line
-  module _ (b : Bool) (says : b ≡ in_line (register_in x j)) where
+  -- after the turn of core j, which reads the register at i, by whether it stands in line
+  module _ (i : ℕ) (here : i ≡ j) (b : Bool) (read : b ≡ in_line (register_in x i)) where
+    says : b ≡ in_line (register_in x j)
+    says = read ∙ ap (λ (k : ℕ). in_line (register_in x k)) here
+
+    ticket_here : (register_in x i).ticket.0 ≡ (register_in x j).ticket.0
+    ticket_here = ap (λ (k : ℕ). (register_in x k).ticket.0) here
+
     joins :
         (who' tickets' : List ℕ) (c' : ℕ) →
         b ≡ true →
         who' ≡ set who c j →
-        tickets' ≡ set tickets c (register_in x j).ticket.0 →
+        tickets' ≡ set tickets c (register_in x i).ticket.0 →
         c' ≡ c + 1 →
         line c' who' tickets' ≡ lined (j + 1) x
-    joins who' tickets' c' e p q r = lined_more x j (line c who tickets) (line c' who' tickets') lines (simp (p, q, r, sym says ∙ e))
+    joins who' tickets' c' e p q r =
+        lined_more x j (line c who tickets) (line c' who' tickets') lines (simp (p, q ∙ ap (set tickets c) ticket_here, r, sym says ∙ e))
 
     passes :
         (who' tickets' : List ℕ) (c' : ℕ) →
@@ -65,11 +72,16 @@ module _ (x : LockUnit) (m j c : ℕ) (who tickets : List ℕ) (few : m ≤ core
           (last : Bool) (l1 l2 : List Bool) →
           c ≤ j →
           b ≡ true →
-          last ≡ some (overtakes tickets (register_in x j).ticket.0) c →
-          l1 ≡ up_to (met tickets (register_in x j).ticket.0) c l →
+          last ≡ some (overtakes tickets (register_in x i).ticket.0) c →
+          l1 ≡ up_to (met tickets (register_in x i).ticket.0) c l →
           l2 ≡ set l1 c last →
           Marked x (j + 1) l2
-      judges last l1 l2 low e el e1 e2 = marked_on x j c who tickets l (omega arith) lines so (sym says ∙ e) last l1 l2 el e1 e2 (omega arith)
+      judges last l1 l2 low e el e1 e2 =
+          marked_on x j c who tickets l (omega arith) lines so (sym says ∙ e) last l1 l2
+          (el ∙ ap (λ (t : ℕ). some (overtakes tickets t) c) ticket_here)
+          (e1 ∙ ap (λ (t : ℕ). up_to (met tickets t) c l) ticket_here)
+          e2
+          (omega arith)
 
       stays : (l2 : List Bool) → b ≡ false → l2 ≡ l → Marked x (j + 1) l2
       stays l2 e is = marked_by x j c who tickets l (omega arith) lines so l2 (sym says ∙ e) is
@@ -80,47 +92,31 @@ module _ (x : LockUnit) (m j c : ℕ) (who tickets : List ℕ) (few : m ≤ core
 
 pub loop-j-init : goal.loop-j-init
 unfolding up_to
-loop-j-init c = (refl, search rules, search rules, search rules, refl, marked_none c.args.x)
-
-pub slice_bounds-column-end : goal.slice_bounds-column-end
-slice_bounds-column-end c = search (tickets_long, rules)
-
-pub slice_bounds-column-end-then-in_line : goal.slice_bounds-column-end-then-in_line
-slice_bounds-column-end-then-in_line c = search (marks_long, rules)
-
-pub column-last-requires : goal.column-last-requires
-column-last-requires c = (search (tickets_enough, rules), search (marks_enough, rules))
+loop-j-init c = (search rules, search rules, refl, marked_none c.args.x)
 
 pub loop-j-preserved : goal.loop-j-preserved
 loop-j-preserved c =
     let a = c.args in
     let p = c.loop-j in
     let says = c.in_line.ensures in
+    let here = c.from.ensures in
     let h = c.loop-j-test.true in
+    let far = p.auto.j-end in
     elim c.if-in_line.branch [
       | then-in_line w ↦ (
-        refl,
-        p.invariant.1,
+        p.invariant.0,
         search rules,
-        search rules,
-        joins a.x a.n p.j p.c p.who p.line p.invariant.1 p.invariant.2 p.invariant.4 _ says _ _ _ w.if-in_line.true w.who-is w.line-is w.c-is,
-        judges a.x a.n p.j p.c p.who p.line p.invariant.1 p.invariant.2 p.invariant.4 _ says p.lost p.invariant.5 h _ _ _ p.invariant.3 w.if-in_line.true
-            w.column-last.ensures.0 w.column-last.ensures.1 w.lost-is,
+        joins a.x a.n p.j p.c p.who p.line p.invariant.0 far p.invariant.2 _ here _ says _ _ _ w.if-in_line.true w.who-is w.line-is w.c-is,
+        judges a.x a.n p.j p.c p.who p.line p.invariant.0 far p.invariant.2 _ here _ says p.lost p.invariant.3 h _ _ _ p.invariant.1 w.if-in_line.true
+            w.column.ensures.0 w.column.ensures.1 w.lost-is,
       )
-      | else-in_line w ↦ search (passes, stays, rules)
+      | else-in_line w ↦ (
+        p.invariant.0,
+        search rules,
+        passes a.x a.n p.j p.c p.who p.line p.invariant.0 far p.invariant.2 _ here _ says _ _ _ w.if-in_line.false w.who-is w.line-is w.c-is,
+        stays a.x a.n p.j p.c p.who p.line p.invariant.0 far p.invariant.2 _ here _ says p.lost p.invariant.3 h _ w.if-in_line.false w.lost-is,
+      )
     ]
-
-pub slice_bounds-unbeaten-end : goal.slice_bounds-unbeaten-end
-slice_bounds-unbeaten-end c = search (who_long, rules)
-
-pub slice_bounds-unbeaten-end-2 : goal.slice_bounds-unbeaten-end-2
-slice_bounds-unbeaten-end-2 c = search (tickets_long, rules)
-
-pub slice_bounds-unbeaten-end-3 : goal.slice_bounds-unbeaten-end-3
-slice_bounds-unbeaten-end-3 c = search (marks_long, rules)
-
-pub unbeaten-requires : goal.unbeaten-requires
-unbeaten-requires c = (search (who_enough, rules), search (tickets_enough, rules), search (marks_enough, rules))
 
 pub returns : goal.returns
 returns c = search (ends, rules)

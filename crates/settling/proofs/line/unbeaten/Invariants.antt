@@ -1,5 +1,5 @@
 -- Before place a, best is the one of those at the places below a that did not lose.
-use Prim.Native.Nat.{◌-◌, ◌≤◌}
+use Prim.Native.Nat.{◌≤◌}
 use mathlib.Core.Path.{◌≡◌}
 use lib.ListN.{length}
 use Rattle.parts.specs.Fold.{up_to}
@@ -12,8 +12,4 @@ invariant-loop-a l =
     (l.c ≤ length l.who) ×
     (l.c ≤ length l.line) ×
     (l.c ≤ length l.lost) ×
-    (l.a ≤ l.c) ×
     (l.best ≡ up_to (kept l.who l.line l.lost) l.a Nobody)
-
-abbrev pub decreases-loop-a : goal.decreases-loop-a
-decreases-loop-a l = l.c - l.a

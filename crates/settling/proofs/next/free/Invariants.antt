@@ -1,12 +1,9 @@
--- None of the first k registers has its flag set, until one has.
-use Prim.Native.Nat.{◌≤◌, ◌-◌}
+-- None of the first registers has its flag set, until one has.
 use mathlib.Core.Path.{◌≡◌}
+use Prim.Native.Nat.{◌≤◌}
 use Rattle.parts.specs.Parts.{cores}
 use Rattle.settling.specs.Line.{flags}
 use Rattle.settling.proofs.next.free.Given as goal
 
-abbrev pub invariant-loop-k : goal.invariant-loop-k
-invariant-loop-k l = (l.n ≤ cores) × (l.k ≤ l.n) × (0 ≡ flags l.k l.x)
-
-abbrev pub decreases-loop-k : goal.decreases-loop-k
-decreases-loop-k l = l.n - l.k
+abbrev pub invariant-loop-r : goal.invariant-loop-r
+invariant-loop-r l = (l.n ≤ cores) × (0 ≡ flags l.r-index l.fn.x)

@@ -1,14 +1,13 @@
 use borrow.Author.Rules.{rules}
-use Prim.Native.Nat.{ℕ, ◌+◌, ◌≤◌, ◌<◌}
+use Prim.Native.Nat.{ℕ, ◌+◌}
 use mathlib.Core.Bool.{Bool, false, ◌||◌, not}
 use mathlib.Core.List.{List}
 use mathlib.Core.Path.{◌≡◌, ◌∙◌, ap}
-use native.Mathlib.Omega.{arith}
 use lib.ListN.{length, length-set, get_or, set}
 use Rattle.ticket.specs.Order.{compare}
 use Rattle.ticket.specs.declared.order.Comparison.{Comparison}
 use Rattle.parts.specs.Fold.{up_to, some}
-use Rattle.parts.proofs.Folds.{none, more, finished}
+use Rattle.parts.proofs.Folds.{none, more}
 use Rattle.settling.specs.Line.{is_older}
 use Rattle.settling.specs.Pairs.{is_younger, overtakes, met}
 use Rattle.settling.proofs.pairs.column.Goals as goal
@@ -31,20 +30,8 @@ module _ (tickets : List ℕ) (t a : ℕ) (y : Comparison) (says : y ≡ compare
 long_again : (l : List Bool) (i n : ℕ) (b : Bool) → length l ≡ n → length (set l i b) ≡ n
 long_again l i n b e = length-set l i b ∙ e
 
-at : (c a n m : ℕ) → c ≤ n → m ≡ n → a < c → a < m
-at c a n m few e h = omega (arith, e)
-
 pub loop-a-init : goal.loop-a-init
 loop-a-init c = search (none, rules)
 
-pub bounds-lost-a : goal.bounds-lost-a
-bounds-lost-a c = search (at, rules)
-
-pub bounds-lost-a-in-loop-a : goal.bounds-lost-a-in-loop-a
-bounds-lost-a-in-loop-a c = search (at, rules)
-
 pub loop-a-preserved : goal.loop-a-preserved
-loop-a-preserved c = (search rules, search rules, search (long_again, rules), search rules, search (last_on, rules), search (marks_on, rules))
-
-pub returns : goal.returns
-returns c = (search (finished, rules), search (finished, rules))
+loop-a-preserved c = (search rules, search rules, search (long_again, rules), search (last_on, rules), search (marks_on, rules))

@@ -1,5 +1,5 @@
 -- Before place a, the marks below a are written, and `last` is whether one of those below a is not younger.
-use Prim.Native.Nat.{◌-◌, ◌≤◌}
+use Prim.Native.Nat.{◌≤◌}
 use mathlib.Core.Path.{◌≡◌}
 use lib.ListN.{length}
 use Rattle.parts.specs.Fold.{up_to, some}
@@ -11,9 +11,5 @@ invariant-loop-a l =
     (l.c ≤ length l.line) ×
     (l.c ≤ length l.initial.lost) ×
     (length l.lost ≡ length l.initial.lost) ×
-    (l.a ≤ l.c) ×
     (l.last ≡ some (overtakes l.line l.t.0) l.a) ×
     (l.lost ≡ up_to (met l.line l.t.0) l.a l.initial.lost)
-
-abbrev pub decreases-loop-a : goal.decreases-loop-a
-decreases-loop-a l = l.c - l.a
