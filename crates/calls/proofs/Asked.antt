@@ -21,7 +21,7 @@ use Rattle.headers.specs.HeaderLine.{HeaderLine}
 use Rattle.headers.specs.HeaderLine.{Header, BadHeader as NoHeader, Unfinished as CutHeader}
 use Rattle.stops.specs.Run.{steps_most, stop_number}
 use Rattle.stops.specs.Due.{line_due, due}
-use Rattle.stops.specs.declared.todo.Todo.TheVariants.{Stop as Halt}
+use Rattle.stops.specs.Todo.{Stop as Halt}
 use Rattle.stops.specs.declared.run.Stop.{Stop}
 use Rattle.stops.specs.declared.run.Stop.TheVariants.{Finished, Unsound, BadHeader, Malformed, Unfinished, NoRoom, TooMany}
 use Rattle.walks.specs.Walk.{Reply}

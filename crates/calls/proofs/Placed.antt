@@ -21,7 +21,7 @@ use Rattle.headers.specs.HeaderLine.{Header, BadHeader as NoHeader, Unfinished a
 use Rattle.digits.specs.Room.{fits}
 use Rattle.stops.specs.Run.{steps_most}
 use Rattle.stops.specs.Due.{line_due}
-use Rattle.stops.specs.declared.todo.Todo.TheVariants.{Stop as Halt}
+use Rattle.stops.specs.Todo.{Stop as Halt}
 use Rattle.stops.specs.declared.run.Run.{Run}
 use Rattle.stops.specs.declared.run.Stop.{Stop}
 use Rattle.stops.specs.declared.run.Stop.TheVariants.{Finished, NoRoom, TooMany}

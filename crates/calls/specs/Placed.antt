@@ -13,8 +13,8 @@ use Rattle.expected.specs.Expected.{expected_bytes}
 use Rattle.writing.specs.Writing.{output_header}
 use Rattle.headers.specs.HeaderLine.{HeaderLine}
 use Rattle.headers.specs.HeaderLine.{Header, BadHeader as NoHeader, Unfinished as CutHeader}
-use Rattle.stops.specs.declared.todo.Todo.{Todo}
-use Rattle.stops.specs.declared.todo.Todo.TheVariants.{Work, Stop as Halt}
+use Rattle.stops.specs.Todo.{Todo}
+use Rattle.stops.specs.Todo.{Work, Stop as Halt}
 use Rattle.stops.specs.declared.run.Run.{Run}
 use Rattle.stops.specs.declared.run.Stop.{Stop}
 use Rattle.stops.specs.declared.run.Stop.TheVariants.{BadHeader, Unfinished, NoRoom}

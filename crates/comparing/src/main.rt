@@ -4,7 +4,7 @@
 
 mod pair;
 
-use pair::{Told, compared};
+use pair::compared;
 
 fn main(rt: HostRuntime) {
     let mut buf = [0; 4096];
@@ -14,8 +14,8 @@ fn main(rt: HostRuntime) {
 
 fn answer(rt: HostRuntime, s: &[u8]) {
     match compared(s) {
-        Told::Malformed => say(rt, "not two numbers from 0 to 65535"),
-        Told::Says(x) => {
+        None => say(rt, "not two numbers from 0 to 65535"),
+        Some(x) => {
             if rt.println(x).is_err() {
                 say(rt, "the output cannot be written");
             }

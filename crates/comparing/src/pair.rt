@@ -1,52 +1,32 @@
 // A line of two numbers, parted by one tab, and how they compare as tickets.
 ghost use Rattle.std.specs.Prelude.{◌≡◌};
-ghost use Rattle.comparing.specs.Pair.{second_field, first_field, compared};
+ghost use Rattle.comparing.specs.Pair.{first_field, compared};
 
-use numbers::{Field, read_field};
+use numbers::read_field;
 use ticket::{Comparison, Ticket, compare};
 
-// What two numbers read as tickets compare as, or that there are not two.
-#[derive(Clone, Copy)]
-pub enum Told {
-    Malformed,
-    Says(Comparison),
-}
+// What two numbers read as tickets compare as, if there are two.
+pub type Told = Option<Comparison>;
 
-// The field that starts at a place, and has to end the line, against the number before it.
-fn second_field(line: &[u8], at: usize, a: u16) -> Told
-    ensures { result ≡ second_field line.now at a }
-{
-    match read_field(line, at) {
-        Field::Bad => Told::Malformed,
-        Field::Last(b) => Told::Says(compare(Ticket(a), Ticket(b))),
-        Field::Then(_, _) => Told::Malformed,
-    }
-}
-
-// A line without its end.
+// A line without its end: a number that a tab ends, and one that ends the line.
 fn first_field(line: &[u8]) -> Told
     ensures { result ≡ first_field line.now }
 {
-    match read_field(line, 0) {
-        Field::Bad => Told::Malformed,
-        Field::Last(_) => Told::Malformed,
-        Field::Then(a, next) => second_field(line, next, a),
-    }
+    let (a, Some(next)) = read_field(line, 0)? else {
+        return None;
+    };
+    let (b, None) = read_field(line, next)? else {
+        return None;
+    };
+    Some(compare(Ticket(a), Ticket(b)))
 }
 
 // A line with its end, and nothing after it.
 pub fn compared(s: &[u8]) -> Told
     ensures { result ≡ compared s.now }
 {
-    let n = s.len();
-    if n == 0 {
-        return Told::Malformed;
+    match s.split_last() {
+        Some((b'\n', line)) => first_field(line),
+        _ => None,
     }
-    let m = n - 1;
-    let b = s[m];
-    if b == 10 {
-        let z = 0;
-        return first_field(&s[z..m]);
-    }
-    Told::Malformed
 }

@@ -23,7 +23,7 @@ pub struct Run {
 // Why a call stopped: nothing left; 16, the table is not sound; 20, no good header; 21, a malformed
 // line; 22, a line that is not finished; 23, no room for the next output line; 24, a line after
 // 1,000,000 steps or more.
-#[derive(Clone, Copy)]
+#[derive(Clone, Copy, Debug, PartialEq, Eq)]
 pub enum Stop {
     Finished,
     Unsound,
@@ -51,12 +51,10 @@ pub fn beginning() -> Run
         profile: Profile::T,
         fill: Fill::Blank,
     };
-    let built = build(counts, Ticket(0));
-    let table = built.table;
     Run {
         place: 0,
         wrote: 0,
-        table,
+        table: build(counts, Ticket(0)).table,
         steps: 0,
         headed: false,
     }
