@@ -10,34 +10,18 @@ use parts::{CORES, LockUnit, Next, Register, UNITS};
 pub fn rows_of(t: Table) -> [[Register; CORES]; UNITS]
     ensures { result ≡ rows_of t }
 {
-    let x = t.units[0];
-    let first = x.registers;
-    let mut rows = [first; UNITS];
-    let mut i = 0;
-    while i < UNITS {
-        let y = t.units[i];
-        let row = y.registers;
-        rows[i] = row;
-        i += 1;
-    }
-    rows
+    t.units.map(
+        |x: LockUnit| -> [Register; CORES]
+            ensures { result ≡ x.registers }
+        { x.registers },
+    )
 }
 
 // Seam: what the table's units show.
 pub fn nexts_of(t: Table) -> [Next; UNITS]
     ensures { result ≡ nexts_of t }
 {
-    let x = t.units[0];
-    let first = x.next;
-    let mut nexts = [first; UNITS];
-    let mut i = 0;
-    while i < UNITS {
-        let y = t.units[i];
-        let v = y.next;
-        nexts[i] = v;
-        i += 1;
-    }
-    nexts
+    t.units.map(|x| x.next)
 }
 
 // Seam: the unit of these registers that shows `next`.
@@ -52,11 +36,8 @@ pub fn gathered(t: Table, rows: [[Register; CORES]; UNITS], nexts: [Next; UNITS]
     ensures { result ≡ gathered t rows nexts }
 {
     let mut table = t;
-    let mut i = 0;
-    while i < UNITS {
-        let v = nexts[i];
-        table.units[i] = unit_with(rows[i], v);
-        i += 1;
+    for i in 0..UNITS {
+        table.units[i] = unit_with(rows[i], nexts[i]);
     }
     table
 }

@@ -19,12 +19,9 @@ fn gives_up(s: Step, z: State) -> bool
     ensures { result ≡ gives_up s z }
 {
     match s {
-        Step::R(_, _) => false,
-        Step::N(_, _) => false,
-        Step::P(_) => false,
         Step::I(_) => waits(z),
-        Step::C(_) => false,
         Step::L(_) => holds(z),
+        Step::R(_, _) | Step::N(_, _) | Step::P(_) | Step::C(_) => false,
     }
 }
 

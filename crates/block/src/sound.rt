@@ -5,7 +5,7 @@ ghost use Rattle.parts.specs.Parts.{units};
 ghost use Rattle.block.specs.Sound.{unit_sound_lem, sound};
 
 use crate::table::Table;
-use parts::{UNITS, in_range};
+use parts::in_range;
 use soundness::{cores_sound, unit_sound};
 use ticket::UnitNo;
 
@@ -24,13 +24,8 @@ impl Table {
         ensures { result ≡ every (unit_sound_lem self) units }
     {
         let mut ok = true;
-        let mut i = 0;
-        while i < UNITS {
-            let all = self.cores;
-            let x = self.units[i];
-            let u = i as u16;
-            ok = ok & unit_sound(all, UnitNo(u), x);
-            i += 1;
+        for (i, x) in self.units.iter().enumerate() {
+            ok &= unit_sound(self.cores, UnitNo(i as u16), *x);
         }
         ok
     }

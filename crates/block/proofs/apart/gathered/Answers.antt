@@ -13,7 +13,7 @@ use Rattle.block.proofs.apart.gathered.Goals as goal
 use Rattle.block.proofs.apart.gathered.Invariants.{with_units}
 
 pub loop-i-init : goal.loop-i-init
-loop-i-init c = (omega arith, (held c.args.t _ c.well_formed.0).units_long, refl, refl)
+loop-i-init c = ((held c.args.t _ c.well_formed.0).units_long, refl, refl)
 
 pub loop-i-preserved : goal.loop-i-preserved
 loop-i-preserved c =
@@ -23,11 +23,10 @@ loop-i-preserved c =
     let even = rows ∙ sym nexts in
     let long = together_long c.args.rows c.args.nexts even ∙ rows in
     let here : l.i < units = search rules in (
-      search rules,
-      length-set l.table.units l.i _ ∙ l.invariant.1,
-      fills (together c.args.rows c.args.nexts) l.table.units l.i l.invariant.2 absent_unit _ (omega (arith, here, long)) (omega (arith, here, l.invariant.1))
+      length-set l.table.units l.i _ ∙ l.invariant.0,
+      fills (together c.args.rows c.args.nexts) l.table.units l.i l.invariant.1 absent_unit _ (omega (arith, here, long)) (omega (arith, here, l.invariant.0))
           (c.unit_with.ensures ∙ sym (unit_at c.args.rows c.args.nexts l.i even)),
-      ap (λ (t : Table). with_units t (set l.table.units l.i c.unit_with.result)) l.invariant.3,
+      ap (λ (t : Table). with_units t (set l.table.units l.i c.unit_with.result)) l.invariant.2,
     )
 
 pub returns : goal.returns
@@ -37,6 +36,6 @@ returns c =
     let nexts = c.well_formed.1.1.0.1.0.1 in
     let long = together_long c.args.rows c.args.nexts (rows ∙ sym nexts) ∙ rows in
     let over : units ≤ l.i = search rules in
-    l.invariant.3 ∙
+    l.invariant.2 ∙
     ap (with_units c.args.t)
-    (filled (together c.args.rows c.args.nexts) l.table.units l.i l.invariant.2 (omega (arith, over, long)) (omega (arith, over, l.invariant.1)))
+    (filled (together c.args.rows c.args.nexts) l.table.units l.i l.invariant.1 (omega (arith, over, long)) (omega (arith, over, l.invariant.0)))

@@ -1,5 +1,4 @@
 -- After i turns, the first i units have their registers and show what they must.
-use Prim.Native.Nat.{◌-◌, ◌≤◌}
 use mathlib.Core.List.{List}
 use mathlib.Core.Path.{◌≡◌}
 use lib.ListN.{length, take}
@@ -15,7 +14,4 @@ with_units t us = record { units = us; cores = t.cores; counts = t.counts; count
 
 abbrev pub invariant-loop-i : goal.invariant-loop-i
 invariant-loop-i l =
-    (l.i ≤ units) × (length l.table.units ≡ units) × (take l.i l.table.units ≡ take l.i (together l.rows l.nexts)) × (l.table ≡ with_units l.initial.table l.table.units)
-
-abbrev pub decreases-loop-i : goal.decreases-loop-i
-decreases-loop-i l = units - l.i
+    (length l.table.units ≡ units) × (take l.i l.table.units ≡ take l.i (together l.rows l.nexts)) × (l.table ≡ with_units l.initial.table l.table.units)

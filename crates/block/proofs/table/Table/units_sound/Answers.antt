@@ -1,5 +1,5 @@
 use borrow.Author.Rules.{rules}
-use Rattle.parts.proofs.Folds.{none, finished}
+use Rattle.parts.proofs.Folds.{none}
 use Rattle.parts.proofs.Loops.{every_more}
 use Rattle.block.proofs.table.Table.units_sound.Goals as goal
 
@@ -8,6 +8,3 @@ loop-i-init c = search (none, rules)
 
 pub loop-i-preserved : goal.loop-i-preserved
 loop-i-preserved c = search (every_more, rules)
-
-pub returns : goal.returns
-returns c = search (finished, rules)
