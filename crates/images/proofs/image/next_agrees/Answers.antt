@@ -12,13 +12,10 @@ use Rattle.images.proofs.Good.{word_total}
 use Rattle.images.proofs.image.next_agrees.Goals as goal
 
 within :
-    (c : Counts) (ws : List ℕ) (u m n : ℕ) →
-    good_words c ws ≡ true →
-    u < unit_count c →
-    m ≡ per_unit c →
-    n ≡ c.cores →
-    u * m + n < length ws
-within c ws u m n good h is last = omega (arith, word_at_lem c u c.cores (last_place c) m is h, word_total c ws good)
+    (c : Counts) (u m : ℕ) → m ≡ per_unit c → u < unit_count c → (ws : List ℕ) → good_words c ws ≡ true → u * m + c.cores < length ws
+within c u m is h ws good = omega (arith, word_at_lem c u c.cores (last_place c) m is h, word_total c ws good)
 
 pub bounds-words-i : goal.bounds-words-i
-bounds-words-i c = search within
+bounds-words-i c =
+    let m = c.per_unit in
+    omega (arith, within c.args.c c.args.u m.result m.ensures c.requires.2 c.args.words.now c.requires.1)
