@@ -33,8 +33,7 @@ use Rattle.parts.specs.declared.answer.Step.{Step}
 use Rattle.parts.specs.declared.answer.Step.TheVariants.{R, N, P, I, C, L}
 use Rattle.places.specs.Places.{in_units, core_place, unit_place, other_place}
 use Rattle.refusals.specs.Judge.{unless, no_core, judge}
-use Rattle.refusals.specs.Verdict.{Verdict}
-use Rattle.refusals.specs.Verdict.{Allowed, Refused}
+use Rattle.refusals.specs.Verdict.{Verdict, Allowed, Refused}
 use Rattle.settling.specs.Line.{in_line, next, stored, won}
 use Rattle.settling.specs.Settle.{enter, carry, changed}
 use Rattle.settling.specs.declared.settle.Change.{Change}

@@ -38,8 +38,7 @@ use Rattle.settling.specs.InFront.{InOrder}
 use Rattle.settling.specs.Best.{Best, Nobody, Won}
 use Rattle.settling.specs.declared.dropping.Dropping.{Dropping}
 use Rattle.refusals.specs.Judge.{judge}
-use Rattle.refusals.specs.Verdict.{Verdict}
-use Rattle.refusals.specs.Verdict.{Allowed}
+use Rattle.refusals.specs.Verdict.{Verdict, Allowed}
 use Rattle.effects.specs.Effect.{makes, interrupt, step_effect}
 use Rattle.effects.specs.declared.kinds.Move.TheVariants.{GiveUp}
 use Rattle.effects.specs.declared.kinds.Effect.{Effect}
@@ -427,9 +426,6 @@ pub first_small :
 first_small t s ok k h gives = first_in t (parts t ok) k (core_small t ok k h) (busy s (core_of t k).state gives).0
 
 module _ (t : Table) (s : Step) (ok : sound t ≡ true) (e : skips t s ≡ true) (k : CoreNo) (ek : k ≡ whose s) where
-  pub skips_core : k.0 < cores
-  skips_core = subst (λ (j : CoreNo). j.0 < cores) (sym ek) (core_small t ok (whose s).0 (skips_so t s e).within)
-
   pub skips_unit :
       let u = (core_of t k.0).first.0 in
       (t.counts.cores ≤ cores) × (u < units) × (shows_next_lem t.counts.cores (unit_of t u) ≡ true) × InOrder t.counts.cores (unit_of t u)

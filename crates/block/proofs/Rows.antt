@@ -25,12 +25,6 @@ use Rattle.block.specs.declared.table.Table.{Table}
 
 -- Taking apart
 
-pub row_of : (us : List LockUnit) (i : ℕ) → (get_or us i absent_unit).registers ≡ get_or (map registers_in us) i []
-row_of us i = sym (get_or-map registers_in us i absent_unit)
-
-pub next_of : (us : List LockUnit) (i : ℕ) → (get_or us i absent_unit).next ≡ get_or (map next_in us) i nobody
-next_of us i = sym (get_or-map next_in us i absent_unit)
-
 pub rows_long : (t : Table) → length t.units ≡ units → length (rows_of t) ≡ units
 rows_long t e = length-map t.units registers_in ∙ e
 

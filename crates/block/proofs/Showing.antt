@@ -42,9 +42,6 @@ module _ (t : Table) (u : ℕ) where
   pub show_flags : (v : ℕ) → flags cores (unit_of (show t u) v) ≡ flags cores (unit_of t v)
   show_flags v = ap (λ (l : List Register). flags cores (with_registers l)) (show_registers v)
 
-  pub show_next : (v : ℕ) → next cores (unit_of (show t u) v) ≡ next cores (unit_of t v)
-  show_next v = ap (λ (l : List Register). next cores (with_registers l)) (show_registers v)
-
   pub show_one_flag : (v : ℕ) → S.one_flag (unit_of (show t u) v) ≡ S.one_flag (unit_of t v)
   show_one_flag v = ap (λ (l : List Register). S.one_flag (with_registers l)) (show_registers v)
 

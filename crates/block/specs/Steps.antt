@@ -12,8 +12,7 @@ use Rattle.parts.specs.declared.answer.Answer.TheVariants.{Unsound}
 use Rattle.parts.specs.declared.answer.Grants.TheVariants.{None}
 use Rattle.parts.specs.declared.answer.Step.{Step}
 use Rattle.refusals.specs.Judge.{stretched, judge}
-use Rattle.refusals.specs.Verdict.{Verdict}
-use Rattle.refusals.specs.Verdict.{Allowed, Refused}
+use Rattle.refusals.specs.Verdict.{Verdict, Allowed, Refused}
 use Rattle.settling.specs.Line.{next}
 use Rattle.effects.specs.Effect.{step_effect}
 use Rattle.effects.specs.declared.kinds.Move.{Move}

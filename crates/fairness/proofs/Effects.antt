@@ -25,8 +25,7 @@ use Rattle.parts.specs.declared.answer.Answer.TheVariants.{Done, NoCore, NoUnit,
 use Rattle.parts.specs.declared.answer.Step.{Step}
 use Rattle.parts.specs.declared.answer.Step.TheVariants.{R, N, P, I, C, L}
 use Rattle.refusals.specs.Judge.{unless, no_core, no_unit, wrong_class, known, in_state, judge}
-use Rattle.refusals.specs.Verdict.{Verdict}
-use Rattle.refusals.specs.Verdict.{Allowed, Refused}
+use Rattle.refusals.specs.Verdict.{Verdict, Allowed, Refused}
 use Rattle.effects.specs.Effect.{request, call_off, counts_dropped, marked_away, interrupt, enter_again, go_on}
 use Rattle.effects.specs.declared.kinds.Effect.{Effect}
 use Rattle.block.specs.Table.{core_of, register_of, Shaped}

@@ -13,8 +13,7 @@ use Rattle.parts.specs.declared.answer.Answer.{Answer}
 use Rattle.parts.specs.declared.answer.Answer.TheVariants.{Done, Unsound}
 use Rattle.parts.specs.declared.answer.Step.{Step}
 use Rattle.parts.specs.declared.answer.Step.TheVariants.{R, N, P, I, C, L}
-use Rattle.refusals.specs.Verdict.{Verdict}
-use Rattle.refusals.specs.Verdict.{Allowed, Refused}
+use Rattle.refusals.specs.Verdict.{Verdict, Allowed, Refused}
 use Rattle.effects.specs.Effect.{request, interrupt, enter_again, go_on, come_back}
 use Rattle.effects.specs.declared.kinds.Effect.{Effect}
 use Rattle.block.specs.Table.{core_of}

@@ -43,8 +43,7 @@ use Rattle.parts.specs.declared.answer.Grants.TheVariants.{Two}
 use Rattle.parts.specs.declared.answer.Step.{Step}
 use Rattle.parts.specs.declared.answer.Step.TheVariants.{R, N, P, I, C, L}
 use Rattle.block.specs.declared.stepped.Stepped.{Stepped}
-use Rattle.refusals.specs.Verdict.{Verdict}
-use Rattle.refusals.specs.Verdict.{Allowed, Refused}
+use Rattle.refusals.specs.Verdict.{Verdict, Allowed, Refused}
 use Rattle.parts.proofs.Along.{same_or_not, up_to_cong}
 use Rattle.block.proofs.Almost.{Almost}
 use Rattle.block.proofs.Agreeing.{line_waits}

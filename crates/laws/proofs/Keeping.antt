@@ -32,8 +32,7 @@ use Rattle.parts.specs.declared.kinds.Counts.{Counts}
 use Rattle.block.specs.declared.table.Table.{Table}
 use Rattle.parts.specs.declared.answer.Step.{Step}
 use Rattle.block.specs.declared.stepped.Stepped.{Stepped}
-use Rattle.refusals.specs.Verdict.{Verdict}
-use Rattle.refusals.specs.Verdict.{Allowed, Refused}
+use Rattle.refusals.specs.Verdict.{Verdict, Allowed, Refused}
 use Rattle.building.specs.declared.building.Built.{Built}
 use Rattle.parts.specs.declared.answer.Answer.TheVariants.{Done, OutOfRange}
 use Rattle.parts.proofs.Bools.{or_left, or_right, or_cases}

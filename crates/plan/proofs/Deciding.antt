@@ -23,8 +23,7 @@ use Rattle.places.proofs.Placing.{core_place_within}
 use Rattle.refusals.specs.Judge.{judge}
 use Rattle.refusals.specs.Tickets.{asked}
 use Rattle.refusals.proofs.Apart.{judge_asked}
-use Rattle.refusals.specs.Verdict.{Verdict}
-use Rattle.refusals.specs.Verdict.{Allowed, Refused}
+use Rattle.refusals.specs.Verdict.{Verdict, Allowed, Refused}
 use Rattle.settling.specs.Line.{stored, won, Within}
 use Rattle.settling.specs.Pairs.{is_younger}
 use Rattle.settling.specs.Shown.{shown_as}

@@ -19,8 +19,7 @@ use Rattle.parts.specs.declared.answer.Grants.TheVariants.{None}
 use Rattle.parts.specs.declared.answer.Step.{Step}
 use Rattle.places.specs.Places.{core_place}
 use Rattle.refusals.specs.Judge.{judge}
-use Rattle.refusals.specs.Verdict.{Verdict}
-use Rattle.refusals.specs.Verdict.{Allowed, Refused}
+use Rattle.refusals.specs.Verdict.{Verdict, Allowed, Refused}
 use Rattle.settling.specs.Line.{stored, won}
 use Rattle.settling.specs.Settle.{stay, enter, leave, carry}
 use Rattle.settling.specs.declared.settle.Change.{Change}

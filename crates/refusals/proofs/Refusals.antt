@@ -3,8 +3,7 @@ use mathlib.Core.Bool.{Bool, true, false}
 use mathlib.Core.Path.{◌≡◌, refl}
 use Rattle.refusals.specs.Judge.{unless}
 use Rattle.parts.specs.declared.answer.Answer.{Answer}
-use Rattle.refusals.specs.Verdict.{Verdict}
-use Rattle.refusals.specs.Verdict.{Refused, Allowed}
+use Rattle.refusals.specs.Verdict.{Verdict, Refused, Allowed}
 use Prim.Native.Nat.{ℕ}
 use native.Mathlib.Omega.{arith}
 

@@ -19,8 +19,7 @@ use Rattle.parts.specs.declared.answer.Answer.{Answer}
 use Rattle.parts.specs.declared.answer.Answer.TheVariants.{NoCore, NoUnit, WrongState, WrongClass, Masked, Stretched}
 use Rattle.parts.specs.declared.answer.Step.{Step}
 use Rattle.parts.specs.declared.answer.Step.TheVariants.{R, N, P, I, C, L}
-use Rattle.refusals.specs.Verdict.{Verdict}
-use Rattle.refusals.specs.Verdict.{Allowed, Refused}
+use Rattle.refusals.specs.Verdict.{Verdict, Allowed, Refused}
 
 -- refused with an answer if the condition holds, and else judged further
 abbrev pub unless : Bool → Answer → Verdict → Verdict

@@ -28,8 +28,7 @@ use Rattle.parts.specs.declared.kinds.Profile.TheVariants.{T, D}
 use Rattle.parts.specs.declared.kinds.Register.{Register}
 use Rattle.settling.specs.Line.{next}
 use Rattle.settling.specs.Best.{Best, Nobody, Won}
-use Rattle.refusals.specs.Verdict.{Verdict}
-use Rattle.refusals.specs.Verdict.{Allowed, Refused}
+use Rattle.refusals.specs.Verdict.{Verdict, Allowed, Refused}
 use Rattle.effects.specs.Effect.{interrupt, heritable, heir}
 use Rattle.effects.specs.declared.kinds.Effect.{Effect}
 use Rattle.block.specs.Settle.{settle}
