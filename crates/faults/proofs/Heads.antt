@@ -23,28 +23,29 @@ use Rattle.lines.specs.Ending.{At, Long, Short}
 use Rattle.headers.specs.Header.{with_counter_lem, with_second_lem, with_first_lem, with_cores, with_letter, parse_header_lem}
 use Rattle.headers.specs.ParsedHeader.{ParsedHeader}
 use Rattle.headers.specs.ParsedHeader.{Good, Not}
-use Rattle.faults.specs.Fault.{wrong, first, upto, numbers_from_lem, from_left, line_fault, fault_at}
+use Rattle.std.specs.Prelude.{Option, Some, None, Err}
+use Rattle.faults.specs.Fault.{NoFault, wrong, first, upto, numbers_from_lem, from_left, line_fault, fault_at}
 use Rattle.faults.specs.Claims.{HeaderFaults}
 use Rattle.faults.specs.declared.fault.Form.TheVariants.{Header}
 use Rattle.faults.specs.declared.fault.Kind.TheVariants.{Head}
 use Rattle.faults.specs.declared.fault.Fault.{Fault}
-use Rattle.faults.specs.declared.fault.Fault.TheVariants.{NoFault, Letter, TooFew, Cores, First, Second}
+use Rattle.faults.specs.declared.fault.Fault.TheVariants.{Letter, TooFew, Cores, First, Second}
 use Rattle.faults.proofs.Scanned.{wrong_by, from_place}
-use Rattle.faults.proofs.Taking.{fault_to, long_wrong}
+use Rattle.faults.proofs.Places.{fault_to}
 use Rattle.faults.proofs.Steps.{kept, by_tab, none_left}
 
 abbrev good : ParsedHeader → Bool
 good p = elim p [ Good c n ↦ in_range c | Not ↦ false ]
 
 -- a count that is in range or not, with a fault g of its own
-module _ (g : Fault) (is : wrong g ≡ true) where
-  off_tabbed : (x : Bool) → wrong (first (cond (not x) g NoFault) NoFault) ≡ not x
+module _ (g : Fault) where
+  off_tabbed : (x : Bool) → wrong (first (cond (not x) (Err g) NoFault) NoFault) ≡ not x
   off_tabbed true = refl
-  off_tabbed false = ap (λ (t : Bool). wrong (cond t g NoFault)) is ∙ is
+  off_tabbed false = refl
 
-  off_ended : (x : Bool) → wrong (first (cond (not x) g NoFault) TooFew) ≡ true
+  off_ended : (x : Bool) → wrong (first (cond (not x) (Err g) NoFault) (Err TooFew)) ≡ true
   off_ended true = refl
-  off_ended false = ap (λ (t : Bool). wrong (cond t g TooFew)) is ∙ is
+  off_ended false = refl
 
 either_way : (q : Bool) → (not q || true) ≡ true
 either_way true = refl
@@ -97,9 +98,9 @@ module _ (p : Profile) (s : List ℕ) where
     second : (f : Number) → (not (in_cores && in_first) || wrong_at 4 f) ≡ not (good (with_second_lem s p a b f))
     second Bad = either_way (in_cores && in_first)
     second (Last c) =
-        ap (λ (t : Bool). not (in_cores && in_first) || t) (off_ended (Second c) refl (in_second c)) ∙ either_way (in_cores && in_first)
+        ap (λ (t : Bool). not (in_cores && in_first) || t) (off_ended (Second c) (in_second c)) ∙ either_way (in_cores && in_first)
     second (Then c j) =
-        ap (λ (t : Bool). not (in_cores && in_first) || (t || wrong (numbers_from_lem (Head p) 4 (upto 5 false 0) (drop j s)))) (off_tabbed (Second c) refl (in_second c)) ∙
+        ap (λ (t : Bool). not (in_cores && in_first) || (t || wrong (numbers_from_lem (Head p) 4 (upto 5 None) (drop j s)))) (off_tabbed (Second c) (in_second c)) ∙
         ap (λ (t : Bool). not (in_cores && in_first) || (not (in_second c) || t)) (from_place (Head p) 4 s j 5) ∙
         counter a b c (in_cores && in_first) (in_second c) (ranged c) (field s j)
 
@@ -114,18 +115,18 @@ module _ (p : Profile) (s : List ℕ) where
     firsts : (f : Number) → (not cores_in || wrong_at 3 f) ≡ not (good (with_first_lem s p a f))
     firsts Bad = either_way cores_in
     firsts (Last b) =
-        ap (λ (t : Bool). not cores_in || t) (off_ended (First b) refl (leb 1 b && leb b per_class)) ∙ either_way cores_in
+        ap (λ (t : Bool). not cores_in || t) (off_ended (First b) (leb 1 b && leb b per_class)) ∙ either_way cores_in
     firsts (Then b j) =
-        ap (λ (t : Bool). not cores_in || (t || wrong (numbers_from_lem (Head p) 4 (upto 4 false 0) (drop j s)))) (off_tabbed (First b) refl (leb 1 b && leb b per_class)) ∙
+        ap (λ (t : Bool). not cores_in || (t || wrong (numbers_from_lem (Head p) 4 (upto 4 None) (drop j s)))) (off_tabbed (First b) (leb 1 b && leb b per_class)) ∙
         ap (λ (t : Bool). not cores_in || (not (leb 1 b && leb b per_class) || t)) (from_place (Head p) 4 s j 4) ∙
         both cores_in (leb 1 b && leb b per_class) (wrong_at 4 (field s j)) ∙
         second a b (field s j)
 
   counts : (f : Number) → wrong_at 2 f ≡ not (good (with_cores s p f))
   counts Bad = refl
-  counts (Last a) = off_ended (Cores a) refl (leb 1 a && leb a cores)
+  counts (Last a) = off_ended (Cores a) (leb 1 a && leb a cores)
   counts (Then a j) =
-      ap (λ (t : Bool). t || wrong (numbers_from_lem (Head p) 4 (upto 3 false 0) (drop j s))) (off_tabbed (Cores a) refl (leb 1 a && leb a cores)) ∙
+      ap (λ (t : Bool). t || wrong (numbers_from_lem (Head p) 4 (upto 3 None) (drop j s))) (off_tabbed (Cores a) (leb 1 a && leb a cores)) ∙
       ap (λ (t : Bool). not (leb 1 a && leb a cores) || t) (from_place (Head p) 4 s j 3) ∙
       firsts a (field s j)
 
@@ -139,12 +140,12 @@ header_line_lem s =
     kept s (from_left Header s) ∙
     by_tab Header s (header_reads s) refl (go (eqb (get_or s 0 0) (script_letter T)) (eqb (get_or s 0 0) (script_letter D)))
   where
-    behind : Profile → ℕ → Bool
-    behind p n = wrong (cond (eqb n 0) Letter (numbers_from_lem (Head p) n (upto 2 false 0) (drop 2 s)))
+    off : Profile → Option ℕ → Bool
+    off p n = wrong (elim n [ None ↦ Err Letter | Some m ↦ numbers_from_lem (Head p) m (upto 2 None) (drop 2 s) ])
 
     go :
         (t d : Bool) →
-        behind (cond t T D) (cond (t || d) 4 0) ≡ not (good (cond t (with_cores s T (field s 2)) (cond d (with_cores s D (field s 2)) Not)))
+        off (cond t T D) (cond (t || d) (Some 4) None) ≡ not (good (cond t (with_cores s T (field s 2)) (cond d (with_cores s D (field s 2)) Not)))
     go true d = from_place (Head T) 4 s 2 2 ∙ counts T s (field s 2)
     go false true = from_place (Head D) 4 s 2 2 ∙ counts D s (field s 2)
     go false false = refl
@@ -168,7 +169,7 @@ header_faults s at = go (leb (length s) at) refl
 
     ends : (w : Ending) → wrong (fault_to Header s at w) ≡ eqb (header_by s at w) 20
     ends (At e) = header_line_lem (take (e - at) (drop at s)) ∙ told (parse_header_lem (take (e - at) (drop at s)))
-    ends Long = long_wrong line_most s at
+    ends Long = refl
     ends Short = refl
 
     go : (t : Bool) → leb (length s) at ≡ t → wrong (fault_at Header s at) ≡ eqb (cond (leb (length s) at) 22 (header_by s at (line_end_lem s at))) 20

@@ -1,4 +1,4 @@
-pub mod Taking
+pub mod Places
 pub mod Turns
 pub mod Scanned
 pub mod Steps

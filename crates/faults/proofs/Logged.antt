@@ -19,14 +19,15 @@ use Rattle.lines.specs.Parsed.{Parsed}
 use Rattle.lines.specs.Parsed.{Good, Not}
 use Rattle.loglines.specs.Log.{log_most, numbers_from_lem as readFrom, Shown, shown_after, step_part, parse_log}
 use Rattle.loglines.proofs.Parts.{more, field_moves}
-use Rattle.faults.specs.Fault.{wrong, step_numbers, upto, numbers_from_lem, from_left, line_fault}
+use Rattle.std.specs.Prelude.{Option, Some, None, Err}
+use Rattle.faults.specs.Fault.{NoFault, wrong, step_numbers, upto, numbers_from_lem, from_left, line_fault}
 use Rattle.faults.specs.Claims.{LogFaults}
 use Rattle.faults.specs.declared.fault.Form.TheVariants.{Log}
 use Rattle.faults.specs.declared.fault.Kind.TheVariants.{Logged}
-use Rattle.faults.specs.declared.fault.Fault.TheVariants.{NoFault, Letter, TooFew}
+use Rattle.faults.specs.declared.fault.Fault.TheVariants.{TooFew}
 use Rattle.faults.proofs.Scanned.{wrong_by, from_place}
-use Rattle.faults.proofs.Steps.{kept, by_tab, good, one_good, two_good, few}
-use Rattle.faults.proofs.Taking.{fault_to, long_wrong}
+use Rattle.faults.proofs.Steps.{kept, behind, by_tab, some_of, good, one_good, two_good, few}
+use Rattle.faults.proofs.Places.{fault_to}
 
 abbrev Read : Type 0
 Read = List ℕ ⊎ Unit {0}
@@ -41,7 +42,7 @@ module _ (n : ℕ) (s : List ℕ) where
   abbrev by_field : (ℕ → Read) → Number → Read
   by_field rest w = elim w [ Bad ↦ inr tt | Last v ↦ inl (v ∷ []) | Then v j ↦ more v (rest j) ]
 
-  ends : (t : Bool) → wrong (cond t TooFew NoFault) ≡ t
+  ends : (t : Bool) → wrong (cond t (Err TooFew) NoFault) ≡ t
   ends true = refl
   ends false = refl
 
@@ -53,7 +54,7 @@ module _ (n : ℕ) (s : List ℕ) where
   one_more k v (inl ns) = let z : k + 1 + length ns - 1 ≡ k + length (v ∷ ns) - 1 = omega arith in ap (λ (m : ℕ). leb m n) z
   one_more k v (inr x) = refl
 
-  fields : (f i k : ℕ) → length s - i < f → wrong (numbers_from_lem Logged n (upto k false 0) (drop i s)) ≡ fewer k (readFrom f s i)
+  fields : (f i k : ℕ) → length s - i < f → wrong (numbers_from_lem Logged n (upto k None) (drop i s)) ≡ fewer k (readFrom f s i)
   unfolding readFrom
   fields zero i k h = absurd (not-suc-le-zero h)
   fields (suc f) i k h = from_place Logged n s i k ∙ go (field s i) refl (fields f)
@@ -61,13 +62,13 @@ module _ (n : ℕ) (s : List ℕ) where
       go :
           (w : Number) →
           field s i ≡ w →
-          ((j m : ℕ) → length s - j < f → wrong (numbers_from_lem Logged n (upto m false 0) (drop j s)) ≡ fewer m (readFrom f s j)) →
+          ((j m : ℕ) → length s - j < f → wrong (numbers_from_lem Logged n (upto m None) (drop j s)) ≡ fewer m (readFrom f s j)) →
           wrong_by Logged n s k w ≡ fewer k (by_field (λ j. readFrom f s j) w)
       go Bad e later = refl
       go (Last v) e later = let z : k ≡ k + length (v ∷ []) - 1 = omega arith in ends (leb k n) ∙ ap (λ (m : ℕ). leb m n) z
       go (Then v j) e later =
           let m = field_moves s i v j e in
-          goes_on (leb k n) (wrong (numbers_from_lem Logged n (upto (k + 1) false 0) (drop j s))) ∙
+          goes_on (leb k n) (wrong (numbers_from_lem Logged n (upto (k + 1) None) (drop j s))) ∙
           later j (k + 1) (omega (arith, m.0, m.1)) ∙
           one_more k v (readFrom f s j)
 
@@ -117,13 +118,10 @@ module _ (b n : ℕ) (one : (k : ℕ) → good (one_number b k) ≡ eqb n 1) (tw
 
 -- a line
 
-abbrev behind : List ℕ → ℕ → Bool
-behind s n = wrong (cond (eqb n 0) Letter (numbers_from_lem Logged n (upto 2 false 0) (drop 2 s)))
-
 abbrev log_reads : List ℕ → Bool → Bool
 log_reads s t = not (shows (cond t (⊎_elim (step_part (get_or s 0 0)) inr (readFrom (length s) s 2)) (inr tt)))
 
-behind_tab : (s : List ℕ) → behind s (step_numbers (get_or s 0 0)) ≡ log_reads s true
+behind_tab : (s : List ℕ) → wrong (behind Log s (step_numbers (get_or s 0 0))) ≡ log_reads s true
 unfolding readFrom
 behind_tab [] = refl
 behind_tab (c ∷ cs) = go (few b)
@@ -140,10 +138,16 @@ behind_tab (c ∷ cs) = go (few b)
     enough : length s - 2 < length s
     enough = omega arith
 
-    go : (step_numbers b ≡ 0) ⊎ ((step_numbers b ≡ 1) ⊎ (step_numbers b ≡ 2)) → behind s (step_numbers b) ≡ log_reads s true
-    go (inl e) = ap (behind s) e ∙ with_none b (step_numbers b) (one_good b) (two_good b) e read
-    go (inr (inl e)) = ap (behind s) e ∙ fields 1 s (length s) 2 2 enough ∙ with_one b (step_numbers b) (one_good b) (two_good b) e read
-    go (inr (inr e)) = ap (behind s) e ∙ fields 2 s (length s) 2 2 enough ∙ with_two b (step_numbers b) (one_good b) (two_good b) e read
+    n : ℕ
+    n = some_of (step_numbers b)
+
+    off : Option ℕ → Bool
+    off m = wrong (behind Log s m)
+
+    go : (step_numbers b ≡ None) ⊎ ((step_numbers b ≡ Some 1) ⊎ (step_numbers b ≡ Some 2)) → off (step_numbers b) ≡ log_reads s true
+    go (inl e) = ap off e ∙ with_none b n (one_good b) (two_good b) (ap some_of e) read
+    go (inr (inl e)) = ap off e ∙ fields 1 s (length s) 2 2 enough ∙ with_one b n (one_good b) (two_good b) (ap some_of e) read
+    go (inr (inr e)) = ap off e ∙ fields 2 s (length s) 2 2 enough ∙ with_two b n (one_good b) (two_good b) (ap some_of e) read
 
 log_line : (s : List ℕ) → wrong (line_fault Log s) ≡ not (shows (parse_log s))
 log_line s = kept s (from_left Log s) ∙ by_tab Log s (log_reads s) refl (behind_tab s)
@@ -165,5 +169,5 @@ log_faults s at = go (ending log_most at (drop at s))
 
     go : (w : Ending) → wrong (fault_to Log s at w) ≡ eqb (log_by s at w) 21
     go (At e) = log_line (take (e - at) (drop at s)) ∙ told (parse_log (take (e - at) (drop at s)))
-    go Long = long_wrong log_most s at
+    go Long = refl
     go Short = refl

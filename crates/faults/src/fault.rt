@@ -1,8 +1,8 @@
 // What is wrong with a line: what stands first in it that may not.
-ghost use Rattle.std.specs.Prelude.{◌≡◌, false, ◌-◌, ◌≤◌, ◌<◌, length, get_or, take, drop};
-ghost use Rattle.faults.specs.Fault.{wrong, step_numbers, numbers, profile_of, kind_of, digit, other, at_tab, look, counted, count, too_many, tabbed, ended, upto, next_field, next, numbers_from_lem, after_letter, from_left, line_fault, most, too_long, fault_at};
+ghost use Rattle.std.specs.Prelude.{◌≡◌, true, None, ◌-◌, ◌≤◌, ◌<◌, length, get_or, take, drop};
+ghost use Rattle.faults.specs.Fault.{wrong, step_numbers, numbers, profile_of, kind_of, digit, other, look, counted, count, too_many, tabbed, ended, upto, next_field, next, numbers_from_lem, after_letter, from_left, line_fault, most, too_long, fault_at};
 
-use lines::{Ending, LINE_MOST, end_within};
+use lines::{LINE_MOST, NoEnd, end_within};
 use loglines::LOG_MOST;
 use parts::{CORES, PER_CLASS, Profile, dequeues};
 
@@ -23,7 +23,7 @@ pub enum Kind {
 }
 
 // Why a field is no number.
-#[derive(Clone, Copy)]
+#[derive(Clone, Copy, Debug, PartialEq, Eq)]
 pub enum Wrong {
     Missing,
     Sign,
@@ -35,9 +35,8 @@ pub enum Wrong {
 
 // What is wrong with a line: no end within the longest one; a carriage return before its end; no byte; the letter; too few
 // numbers or too many; a field, counted from 1 with the letter; a count of a header.
-#[derive(Clone, Copy)]
+#[derive(Clone, Copy, Debug, PartialEq, Eq)]
 pub enum Fault {
-    NoFault,
     TooLong,
     Return,
     Empty,
@@ -50,75 +49,41 @@ pub enum Fault {
     Second(u16),
 }
 
-// A byte of a number: a tab behind it, a digit with the value so far, or none.
-#[derive(Clone, Copy)]
-pub enum Look {
-    Tab,
-    Digit(u16),
-    Fails(Wrong),
-}
-
-// Up to a byte of a line: the field, and its digits, some or none, with their value.
+// Up to a byte of a line: the field, and the value of its digits, if it has any.
 #[derive(Clone, Copy)]
 pub struct Upto {
     pub field: usize,
-    pub some: bool,
-    pub value: u16,
-}
-
-// A byte more: on, or what is wrong.
-#[derive(Clone, Copy)]
-pub enum Next {
-    On(Upto),
-    Stop(Fault),
-}
-
-fn is_wrong(f: Fault) -> bool
-    ensures { result ≡ wrong f }
-{
-    match f {
-        Fault::NoFault => false,
-        Fault::TooLong => true,
-        Fault::Return => true,
-        Fault::Empty => true,
-        Fault::Letter => true,
-        Fault::TooFew => true,
-        Fault::TooMany => true,
-        Fault::Field(_, _) => true,
-        Fault::Cores(_) => true,
-        Fault::First(_) => true,
-        Fault::Second(_) => true,
-    }
+    pub value: Option<u16>,
 }
 
 // How many numbers follow a step's letter.
-fn step_numbers(b: u8) -> usize
+fn step_numbers(b: u8) -> Option<usize>
     ensures { result ≡ step_numbers b }
 {
-    if (b == b'R') | (b == b'N') {
-        return 2;
+    match b {
+        b'R' | b'N' => Some(2),
+        b'P' | b'I' | b'C' | b'L' => Some(1),
+        _ => None,
     }
-    if (b == b'P') | (b == b'I') | (b == b'C') | (b == b'L') {
-        return 1;
-    }
-    0
 }
 
-// How many numbers follow the letter of a line.
-pub fn numbers(form: Form, b: u8) -> usize
+// How many numbers follow the letter of a line, if there are lines with it.
+pub fn numbers(form: Form, b: u8) -> Option<usize>
     ensures { result ≡ numbers form b }
 {
     match form {
-        Form::Script => step_numbers(b),
-        Form::Log => step_numbers(b),
+        Form::Script | Form::Log => step_numbers(b),
         Form::Header => header_numbers(b),
     }
 }
 
-fn header_numbers(b: u8) -> usize
+fn header_numbers(b: u8) -> Option<usize>
     ensures { result ≡ numbers Form.Header b }
 {
-    if (b == b'T') | (b == b'D') { 4 } else { 0 }
+    match b {
+        b'T' | b'D' => Some(4),
+        _ => None,
+    }
 }
 
 // The profile by a header's letter.
@@ -139,234 +104,170 @@ fn kind_of(form: Form, b: u8) -> Kind
     }
 }
 
-// A digit after some or none, whose value is v.
-fn digit(some: bool, v: u16, d: u16) -> Look
+// A digit after those whose value is v, if there are any.
+fn digit(v: Option<u16>, d: u16) -> Result<Option<u16>, Wrong>
     requires { d ≤ 9 }
-    ensures { result ≡ digit some v d }
+    ensures { result ≡ digit v d }
 {
-    if some & (v == 0) {
-        return Look::Fails(Wrong::LeadingZero);
+    if v == Some(0) {
+        return Err(Wrong::LeadingZero);
     }
-    let n = 10 * (v as u32) + (d as u32);
+    let n = 10 * u32::from(v.unwrap_or(0)) + u32::from(d);
     if n <= 65535 {
-        Look::Digit(n as u16)
+        Ok(Some(n as u16))
     } else {
-        Look::Fails(Wrong::TooGreat)
+        Err(Wrong::TooGreat)
     }
 }
 
-// A byte that is neither a digit nor a tab.
+// A byte that is neither a digit nor a tab, after some digits or none.
 fn other(some: bool, b: u8) -> Wrong
     ensures { result ≡ other some b }
 {
-    if b == b' ' {
-        return Wrong::Space;
-    }
-    if !some & ((b == b'+') | (b == b'-')) {
-        Wrong::Sign
-    } else {
-        Wrong::Other
+    match b {
+        b' ' => Wrong::Space,
+        b'+' | b'-' if !some => Wrong::Sign,
+        _ => Wrong::Other,
     }
 }
 
-// A tab after some digits or none.
-fn at_tab(some: bool) -> Look
-    ensures { result ≡ at_tab some }
+// A byte of a number, after digits whose value is v, if there are any: nothing at a tab, the value with a digit.
+fn look_at(v: Option<u16>, b: u8) -> Result<Option<u16>, Wrong>
+    ensures { result ≡ look v b }
 {
-    if some {
-        Look::Tab
-    } else {
-        Look::Fails(Wrong::Missing)
-    }
-}
-
-// A byte of a number, after some digits or none, whose value is v.
-fn look_at(some: bool, v: u16, b: u8) -> Look
-    ensures { result ≡ look some v b }
-{
-    if b == 9 {
-        return at_tab(some);
-    }
-    if (48 <= b) & (b <= 57) {
-        digit(some, v, (b - 48) as u16)
-    } else {
-        Look::Fails(other(some, b))
+    match b {
+        b'\t' if v.is_some() => Ok(None),
+        b'\t' => Err(Wrong::Missing),
+        b'0'..=b'9' => digit(v, u16::from(b - b'0')),
+        _ => Err(other(v.is_some(), b)),
     }
 }
 
 // Field k of a header has the value v.
-fn counted(p: Profile, k: usize, v: u16) -> Fault
+fn counted(p: Profile, k: usize, v: u16) -> Result<(), Fault>
     ensures { result ≡ counted p k v }
 {
-    let n = v as usize;
+    let n = usize::from(v);
     if (k == 2) & !((1 <= n) & (n <= CORES)) {
-        return Fault::Cores(v);
+        return Err(Fault::Cores(v));
     }
     if (k == 3) & !((1 <= n) & (n <= PER_CLASS)) {
-        return Fault::First(v);
+        return Err(Fault::First(v));
     }
     let classed = !dequeues(p) | (n == 0);
     if (k == 4) & !((n <= PER_CLASS) & classed) {
-        return Fault::Second(v);
+        return Err(Fault::Second(v));
     }
-    Fault::NoFault
+    Ok(())
 }
 
 // Field k of a line has the value v.
-fn count(kind: Kind, k: usize, v: u16) -> Fault
+fn count(kind: Kind, k: usize, v: u16) -> Result<(), Fault>
     ensures { result ≡ count kind k v }
 {
     match kind {
-        Kind::Step => Fault::NoFault,
-        Kind::Logged => Fault::NoFault,
+        Kind::Step | Kind::Logged => Ok(()),
         Kind::Head(p) => counted(p, k, v),
     }
 }
 
 // More numbers than the letter has.
-fn too_many(kind: Kind) -> Fault
+fn too_many(kind: Kind) -> Result<(), Fault>
     ensures { result ≡ too_many kind }
 {
     match kind {
-        Kind::Step => Fault::TooMany,
-        Kind::Logged => Fault::NoFault,
-        Kind::Head(_) => Fault::TooMany,
+        Kind::Step | Kind::Head(_) => Err(Fault::TooMany),
+        Kind::Logged => Ok(()),
     }
 }
 
 // A tab ends field k, whose value is v; the letter has n numbers.
-fn tabbed(kind: Kind, n: usize, k: usize, v: u16) -> Fault
+fn tabbed(kind: Kind, n: usize, k: usize, v: u16) -> Result<(), Fault>
     ensures { result ≡ tabbed kind n k v }
 {
-    let f = count(kind, k, v);
-    if is_wrong(f) {
-        return f;
-    }
-    if k <= n {
-        Fault::NoFault
-    } else {
-        too_many(kind)
-    }
+    count(kind, k, v)?;
+    if k <= n { Ok(()) } else { too_many(kind) }
 }
 
-// The line's end ends field k.
-fn ended(kind: Kind, n: usize, k: usize, some: bool, v: u16) -> Fault
-    ensures { result ≡ ended kind n k some v }
+// The line's end ends field k, whose value is v, if it has any digits.
+fn ended(kind: Kind, n: usize, k: usize, v: Option<u16>) -> Result<(), Fault>
+    ensures { result ≡ ended kind n k v }
 {
-    if !some {
-        return Fault::Field(k, Wrong::Missing);
-    }
-    let f = count(kind, k, v);
-    if is_wrong(f) {
-        return f;
-    }
-    if k <= n {
-        Fault::TooFew
-    } else {
-        Fault::NoFault
-    }
+    let v = v.ok_or(Fault::Field(k, Wrong::Missing))?;
+    count(kind, k, v)?;
+    if k <= n { Err(Fault::TooFew) } else { Ok(()) }
 }
 
 // A tab ends field k: on with the next one, unless something is wrong.
-fn next_field(kind: Kind, n: usize, k: usize, v: u16, then: usize) -> Next
+fn next_field(kind: Kind, n: usize, k: usize, v: u16, then: usize) -> Result<Upto, Fault>
     ensures { result ≡ next_field kind n k v then }
 {
-    let f = tabbed(kind, n, k, v);
-    if is_wrong(f) {
-        Next::Stop(f)
-    } else {
-        Next::On(Upto {
-            field: then,
-            some: false,
-            value: 0,
-        })
-    }
+    tabbed(kind, n, k, v)?;
+    Ok(Upto {
+        field: then,
+        value: None,
+    })
 }
 
 // One byte more.
-fn next_at(kind: Kind, n: usize, a: Upto, s: &[u8], i: usize) -> Next
+fn next_at(kind: Kind, n: usize, a: Upto, s: &[u8], i: usize) -> Result<Upto, Fault>
     requires { (a.field ≤ i) × (i < length s.now) }
     ensures { result ≡ next kind n a (get_or s.now i 0) }
 {
     let k = a.field;
-    let v = a.value;
-    let then = k + 1;
-    match look_at(a.some, v, s[i]) {
-        Look::Tab => next_field(kind, n, k, v, then),
-        Look::Digit(d) => Next::On(Upto {
-            field: k,
-            some: true,
-            value: d,
-        }),
-        Look::Fails(w) => Next::Stop(Fault::Field(k, w)),
-    }
-}
-
-// Before the numbers of a line.
-fn before_numbers() -> Upto
-    ensures { result ≡ upto 2 false 0 }
-{
-    Upto {
-        field: 2,
-        some: false,
-        value: 0,
+    match look_at(a.value, s[i]) {
+        Ok(None) => next_field(kind, n, k, a.value.unwrap_or(0), k + 1),
+        Ok(value) => Ok(Upto { field: k, value }),
+        Err(w) => Err(Fault::Field(k, w)),
     }
 }
 
 // The numbers of a line, from its third byte on.
-fn numbers_from(kind: Kind, n: usize, s: &[u8]) -> Fault
-    ensures { result ≡ numbers_from_lem kind n (upto 2 false 0) (drop 2 s.now) }
+fn numbers_from(kind: Kind, n: usize, s: &[u8]) -> Result<(), Fault>
+    ensures { result ≡ numbers_from_lem kind n (upto 2 None) (drop 2 s.now) }
 {
-    let mut a = before_numbers();
-    let mut i: usize = 2;
-    while i < s.len() {
-        match next_at(kind, n, a, s, i) {
-            Next::Stop(f) => return f,
-            Next::On(b) => a = b,
-        }
-        i += 1;
+    let mut a = Upto {
+        field: 2,
+        value: None,
+    };
+    for i in 2..s.len() {
+        a = next_at(kind, n, a, s, i)?;
     }
-    ended(kind, n, a.field, a.some, a.value)
+    ended(kind, n, a.field, a.value)
 }
 
 // What follows a letter that has n numbers.
-fn after_letter(kind: Kind, n: usize, s: &[u8]) -> Fault
+fn after_letter(kind: Kind, n: usize, s: &[u8]) -> Result<(), Fault>
     ensures { result ≡ after_letter kind n s.now }
 {
     if s.len() <= 1 {
-        return Fault::TooFew;
+        return Err(Fault::TooFew);
     }
-    if s[1] == 9 {
+    if s[1] == b'\t' {
         numbers_from(kind, n, s)
     } else {
-        Fault::Field(1, other(true, s[1]))
+        Err(Fault::Field(1, other(true, s[1])))
     }
 }
 
 // A line without its end, from the left.
-fn from_left(form: Form, s: &[u8]) -> Fault
+fn from_left(form: Form, s: &[u8]) -> Result<(), Fault>
     ensures { result ≡ from_left form s.now }
 {
-    if s.len() == 0 {
-        return Fault::Empty;
+    if s.is_empty() {
+        return Err(Fault::Empty);
     }
-    let n = numbers(form, s[0]);
-    if n == 0 {
-        return Fault::Letter;
-    }
+    let n = numbers(form, s[0]).ok_or(Fault::Letter)?;
     after_letter(kind_of(form, s[0]), n, s)
 }
 
 // The same, but a carriage return at the end is told first.
-fn line_fault(form: Form, s: &[u8]) -> Fault
+fn line_fault(form: Form, s: &[u8]) -> Result<(), Fault>
     ensures { result ≡ line_fault form s.now }
 {
     let f = from_left(form, s);
-    if s.len() == 0 {
-        return f;
-    }
-    if is_wrong(f) & (s[s.len() - 1] == 13) {
-        Fault::Return
+    if f.is_err() & s.ends_with(b"\r") {
+        Err(Fault::Return)
     } else {
         f
     }
@@ -377,14 +278,13 @@ pub fn longest(form: Form) -> usize
     ensures { result ≡ most form }
 {
     match form {
-        Form::Script => LINE_MOST,
+        Form::Script | Form::Header => LINE_MOST,
         Form::Log => LOG_MOST,
-        Form::Header => LINE_MOST,
     }
 }
 
 // The line from a place to its end, e.
-fn line_at(form: Form, s: &[u8], at: usize, e: usize) -> Fault
+fn line_at(form: Form, s: &[u8], at: usize, e: usize) -> Result<(), Fault>
     requires { (at ≤ e) × (e < length s.now) }
     ensures { result ≡ line_fault form (take (e - at) (drop at s.now)) }
 {
@@ -402,21 +302,21 @@ fn too_long(m: usize, s: &[u8], at: usize) -> Fault
     if s.len() - at < m {
         return Fault::TooLong;
     }
-    if s[at + (m - 1)] == 13 {
+    if s[at + (m - 1)] == b'\r' {
         Fault::Return
     } else {
         Fault::TooLong
     }
 }
 
-// The line at a place.
-pub fn fault_at(form: Form, s: &[u8], at: usize) -> Fault
+// The line at a place; nothing is wrong yet with one that is not finished.
+pub fn fault_at(form: Form, s: &[u8], at: usize) -> Result<(), Fault>
     ensures { result ≡ fault_at form s.now at }
 {
     let m = longest(form);
     match end_within(s, at, m) {
-        Ending::At(e) => line_at(form, s, at, e),
-        Ending::Long => too_long(m, s, at),
-        Ending::Short => Fault::NoFault,
+        Ok(e) => line_at(form, s, at, e),
+        Err(NoEnd::TooLong) => Err(too_long(m, s, at)),
+        Err(NoEnd::CutOff) => Ok(()),
     }
 }
