@@ -181,10 +181,12 @@ fn malformed(err: Stderr, text: Text, piece: &[u8], at: usize) {
     }
 }
 
-// What is wrong with the line at a place, and the line.
+// What is wrong with the line at a place, and the line. One that is refused has a fault.
 fn refused(err: Stderr, what: &[u8], form: Form, piece: &[u8], at: usize, number: &[u8]) {
     say(err, what);
-    say_fault(err, fault_at(form, piece, at), form, letter_at(piece, at));
+    if let Err(f) = fault_at(form, piece, at) {
+        say_fault(err, f, form, letter_at(piece, at));
+    }
     say_shown(err, piece, at);
     say(err, number);
 }

@@ -5,10 +5,9 @@ use faults::{Fault, Form, Wrong, longest, numbers};
 use parts::{CORES, PER_CLASS};
 use std::io::Stderr;
 
-// The line begins with this letter. A line that is refused has a fault.
+// The line begins with this letter.
 pub(crate) fn say_fault(err: Stderr, f: Fault, form: Form, letter: u8) {
     match f {
-        Fault::NoFault => say(err, b"it has no fault"),
         Fault::TooLong => say_length(err, longest(form)),
         Fault::Return => say(err, b"a carriage return before its end"),
         Fault::Empty => say(err, b"it is empty"),
@@ -54,8 +53,9 @@ fn say_step_letter(err: Stderr, letter: u8) {
     say(err, b"\"");
 }
 
+// Only lines with a letter that has numbers have too few fields or too many.
 fn say_fields(err: Stderr, what: &[u8], form: Form, letter: u8) {
-    let n = numbers(form, letter);
+    let n = numbers(form, letter).unwrap_or(0);
     say(err, what);
     say_byte(err, letter);
     say(err, b" has ");
