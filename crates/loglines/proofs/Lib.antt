@@ -1,6 +1,5 @@
 pub mod Parts
 pub mod ReadsBack
-pub mod Alike
 pub mod Quickly
 pub mod Offs
 pub mod Rest

@@ -14,16 +14,12 @@ use Rattle.parts.specs.declared.answer.Grants.{Grants}
 use Rattle.parts.specs.declared.answer.Grants.TheVariants.{None, One, Two}
 use Rattle.numbers.proofs.Turns.{opened}
 use Rattle.loglines.specs.Log.{given_by, one_on_lem, first_off, seen_at}
-use Rattle.loglines.specs.Parts.{is_number, off_by, ended_at, judged_by}
-use Rattle.loglines.specs.declared.line.Judged.{Judged}
-use Rattle.loglines.specs.declared.line.Judged.TheVariants.{Agrees}
-use Rattle.loglines.specs.declared.seen.Seen.{Seen}
-use Rattle.loglines.specs.declared.seen.Seen.TheVariants.{Missing, Number}
+use Rattle.loglines.specs.Parts.{off_by, ended_at, judged_by}
+use Rattle.std.specs.Option.{option_eq}
+use Rattle.loglines.specs.Parts.{Judged, Agrees}
+use Rattle.loglines.specs.Log.{Seen, Missing, Number}
 
 -- The number at a place
-
-pub seen_none : (p : ℕ) → 1 ≤ p → seen_at [] p ≡ Missing
-seen_none p h = rw (lt-leb p 0 h)
 
 pub seen_first : (x : ℕ) (xs : List ℕ) → seen_at (x ∷ xs) 1 ≡ Number x
 seen_first x xs = rw (le-leb 1 (suc (length xs)) (omega arith))
@@ -41,32 +37,6 @@ seen_later x xs p h =
     let z : p - 1 ≡ suc (p - 1 - 1) = omega arith in
     let g : get_or (x ∷ xs) (p - 1) 0 ≡ get_or xs (p - 1 - 1) 0 = ap (λ (i : ℕ). get_or (x ∷ xs) i 0) z in
     λ i. cond (t i) (Number (g i)) Missing
-
-module _ (p : ℕ) (x : ℕ) (xs : List ℕ) where
-  pub at_first : p ≡ 1 → Number x ≡ seen_at (x ∷ xs) p
-  at_first e = rw e (sym (seen_first x xs))
-
-  pub behind_first : (r : Seen) → 1 ≤ p → (p ≡ 1 → ⊥) → r ≡ seen_at xs (p - 1) → r ≡ seen_at (x ∷ xs) p
-  behind_first r h d is = is ∙ sym (seen_later x xs p (omega arith))
-
-module _ (p : ℕ) (x y : ℕ) (xs : List ℕ) where
-  pub at_second : p ≡ 2 → Number y ≡ seen_at (x ∷ y ∷ xs) p
-  at_second e = rw e (sym (seen_later x (y ∷ xs) 2 (omega arith) ∙ seen_first y xs))
-
-  pub behind_second : (r : Seen) → 1 ≤ p → (p ≡ 1 → ⊥) → (p ≡ 2 → ⊥) → r ≡ seen_at xs (p - 2) → r ≡ seen_at (x ∷ y ∷ xs) p
-  behind_second r h c d is =
-      let z : p - 2 ≡ p - 1 - 1 = omega arith in
-      behind_first p x (y ∷ xs) r h c (behind_first (p - 1) y xs r (omega arith) (λ e. d (omega arith)) (is ∙ ap (seen_at xs) z))
-
-module _ (p : ℕ) (x y z : ℕ) (xs : List ℕ) where
-  pub at_third : p ≡ 3 → Number z ≡ seen_at (x ∷ y ∷ z ∷ xs) p
-  at_third e = rw e (sym (seen_later x (y ∷ z ∷ xs) 3 (omega arith) ∙ seen_later y (z ∷ xs) 2 (omega arith) ∙ seen_first z xs))
-
-  pub behind_third :
-      (r : Seen) → 1 ≤ p → (p ≡ 1 → ⊥) → (p ≡ 2 → ⊥) → (p ≡ 3 → ⊥) → r ≡ seen_at xs (p - 3) → r ≡ seen_at (x ∷ y ∷ z ∷ xs) p
-  behind_third r h c d e is =
-      let q : p - 3 ≡ p - 2 - 1 = omega arith in
-      behind_second p x y (z ∷ xs) r h c d (behind_first (p - 2) z xs r (omega arith) (λ k. e (omega arith)) (is ∙ ap (seen_at xs) q))
 
 -- what stands behind the first m numbers: nothing, or a number, which is the one at the place m + 1
 abbrev pub At : List ℕ → ℕ → Type 0
@@ -161,21 +131,23 @@ module _ (n m : ℕ) (gs : List ℕ) (given : Seen) (is : given ≡ seen_at gs (
   pub judged_end : ended_at n (m + 1) given ≡ judged_on n m [] (drop m gs)
   judged_end = ⊎_elim (λ w. rw (is, w.1, w.0) (sym (end_missing n m))) (λ w. rw (is, w.2, w.1) (sym (end_given n m _ _))) (at gs m)
 
-  pub judged_off : (v : ℕ) (ns : List ℕ) → is_number v given ≡ false → off_by n (m + 1) (Number v) given ≡ judged_on n m (v ∷ ns) (drop m gs)
+  pub judged_off : (v : ℕ) (ns : List ℕ) → option_eq eqb given (Number v) ≡ false → off_by n (m + 1) (Number v) given ≡ judged_on n m (v ∷ ns) (drop m gs)
   judged_off v ns d =
       ⊎_elim
       (λ w. rw (is, w.1, w.0) (sym (more_missing n m v ns)))
-      (λ w. rw (is, w.2, w.1) (sym (more_other n m v _ ns _ (sym (ap (is_number v) (is ∙ w.2)) ∙ d))))
+      (λ w.
+      let o = eqb-false (get_or gs m 0) v (sym (ap (λ (g : Seen). option_eq eqb g (Number v)) (is ∙ w.2)) ∙ d) in
+      rw (is, w.2, w.1) (sym (more_other n m v _ ns _ (ne_eqb v (get_or gs m 0) (λ e. o (sym e))))))
       (at gs m)
 
   pub judged_same :
       (v : ℕ) (ns : List ℕ) →
-      is_number v given ≡ true →
+      option_eq eqb given (Number v) ≡ true →
       (m + 1 ≤ length gs) × (judged_on n m (v ∷ ns) (drop m gs) ≡ judged_on n (m + 1) ns (drop (m + 1) gs))
   judged_same v ns e =
       ⊎_elim
-      (λ w. let z : false ≡ true = sym (ap (is_number v) (is ∙ w.1)) ∙ e in absurd (let y : ◌≡◌ {A = ℕ} 0 1 = cc in omega arith))
+      (λ w. let z : false ≡ true = sym (ap (λ (g : Seen). option_eq eqb g (Number v)) (is ∙ w.1)) ∙ e in absurd (let y : ◌≡◌ {A = ℕ} 0 1 = cc in omega arith))
       (λ w.
-      let z : v ≡ get_or gs m 0 = eqb-true v (get_or gs m 0) (sym (ap (is_number v) (is ∙ w.2)) ∙ e) in
+      let z : v ≡ get_or gs m 0 = sym (eqb-true (get_or gs m 0) v (sym (ap (λ (g : Seen). option_eq eqb g (Number v)) (is ∙ w.2)) ∙ e)) in
       (w.0, rw (w.1, ← z) (same_on n m v ns (drop (m + 1) gs))))
       (at gs m)

@@ -4,12 +4,12 @@ use Prim.Native.Nat.{ℕ, zero, suc, ◌-◌, ◌≤◌, ◌<◌}
 use mathlib.Core.Bool.{Bool, true, false, cond}
 use mathlib.Core.List.{List, [], ◌∷◌}
 use mathlib.Core.Logic.{◌⊎◌, inl, inr, ⊎_elim}
-use mathlib.Core.Path.{◌≡◌, refl, sym, ◌∙◌, ap, subst}
+use mathlib.Core.Path.{◌≡◌, refl, ◌∙◌, ap, subst}
 use native.Mathlib.Nat.{not-suc-le-zero}
 use native.Mathlib.Omega.{arith}
 use lib.Dec.{eqb}
 use lib.ListN.{length, get_or, drop, length-append, length-drop}
-use borrow.Author.Tests.{ne_eqb, eqb-true}
+use borrow.Author.Tests.{eqb-true}
 use Rattle.parts.specs.Parts.{core_no, unit_no}
 use Rattle.parts.specs.declared.answer.Step.{Step}
 use Rattle.parts.specs.declared.answer.Step.TheVariants.{R, N, P, I, C, L}
@@ -24,8 +24,8 @@ use Rattle.lines.specs.Parsed.{Good, Not as NoStep}
 use Rattle.writing.specs.Writing.{numbers_of}
 use Rattle.loglines.specs.Log.{numbers_from_lem, Shown, shown_after, step_part, parse_log}
 use Rattle.loglines.specs.Parts.{part_of, part_two, part_longer, part_after, part_in, rest_from}
-use Rattle.loglines.specs.declared.line.Part.{Part}
-use Rattle.loglines.specs.declared.line.Part.TheVariants.{Step as Begins, Not}
+use Rattle.loglines.specs.Parts.{Part, Begins, Not}
+use Rattle.std.specs.Prelude.{Option, Some, None}
 
 -- The fields from a place on
 
@@ -106,10 +106,7 @@ module _ (s : List ℕ) (letter : ℕ) where
   abbrev step_of : List ℕ ⊎ Unit {0} → Shown ⊎ Unit {0}
   step_of w = ⊎_elim (step_part letter) inr w
 
-  rest_is : (i : ℕ) → 0 < i → rest_from s i ≡ numbers_from_lem (length s) s i
-  rest_is i p = rw (ne_eqb i 0 (λ e. omega arith))
-
-  last_of : (p : Parsed) (n : ℕ) → shown_after p [] (inr tt) ≡ parted s (part_of p n 0)
+  last_of : (p : Parsed) (n : ℕ) → shown_after p [] (inr tt) ≡ parted s (part_of p n None)
   last_of (Good x) n = refl
   last_of NoStep n = refl
 
@@ -119,21 +116,20 @@ module _ (s : List ℕ) (letter : ℕ) where
     one_then x (inl (u ∷ ns)) e = simp e
     one_then x (inr tt) e = refl
 
-    two_last : (u : ℕ) → one_number letter k ≡ NoStep → step_of (inl (k ∷ u ∷ [])) ≡ parted s (part_of (two_numbers_lem letter k u) 2 0)
+    two_last : (u : ℕ) → one_number letter k ≡ NoStep → step_of (inl (k ∷ u ∷ [])) ≡ parted s (part_of (two_numbers_lem letter k u) 2 None)
     two_last u e = simp e (last_of (two_numbers_lem letter k u) 2)
 
     two_then :
         (u j : ℕ) →
-        0 < j →
         one_number letter k ≡ NoStep →
-        step_of (more k (more u (numbers_from_lem (length s) s j))) ≡ parted s (part_of (two_numbers_lem letter k u) 2 j)
-    two_then u j p e = go (two_numbers_lem letter k u) (numbers_from_lem (length s) s j) refl (rest_is j p)
+        step_of (more k (more u (numbers_from_lem (length s) s j))) ≡ parted s (part_of (two_numbers_lem letter k u) 2 (Some j))
+    two_then u j e = go (two_numbers_lem letter k u) (numbers_from_lem (length s) s j) refl refl
       where
         go :
             (t : Parsed) (w : List ℕ ⊎ Unit {0}) →
             two_numbers_lem letter k u ≡ t →
-            rest_from s j ≡ w →
-            step_of (more k (more u w)) ≡ parted s (part_of t 2 j)
+            rest_from s (Some j) ≡ w →
+            step_of (more k (more u w)) ≡ parted s (part_of t 2 (Some j))
         go (Good x) (inl ns) is rest = simp (e, is, rest)
         go (Good x) (inr tt) is rest = simp rest
         go NoStep (inl ns) is rest = simp (e, is)
@@ -146,12 +142,12 @@ module _ (s : List ℕ) (letter : ℕ) where
             step_of (more k (numbers_from_lem (length s) s i)) ≡ parted s (part_two letter k f)
         two e Bad is = rw (numbers_bad s (length s) i is)
         two e (Last u) is = rw (numbers_last s (length s) i u long is) (two_last u e)
-        two e (Then u j) is = let m = field_moves s i u j is in rw (numbers_on s i u j p is) (two_then u j (omega (arith, m.0)) e)
+        two e (Then u j) is = rw (numbers_on s i u j p is) (two_then u j e)
 
         one : (t : Parsed) → one_number letter k ≡ t →
             step_of (more k (numbers_from_lem (length s) s i))
-            ≡ parted s (elim t [ Good x ↦ Begins x 1 i | NoStep ↦ part_two letter k (field s i) ])
-        one (Good x) e = one_then x (numbers_from_lem (length s) s i) e ∙ ap (begun x) (sym (rest_is i p))
+            ≡ parted s (elim t [ Good x ↦ Begins x 1 (Some i) | NoStep ↦ part_two letter k (field s i) ])
+        one (Good x) e = one_then x (numbers_from_lem (length s) s i) e
         one NoStep e = two e (field s i) refl
 
   after_is : 0 < length s → step_of (numbers_from_lem (length s) s 2) ≡ parted s (part_after s letter (field s 2))
@@ -183,7 +179,7 @@ module _ (s : List ℕ) where
   pub parse_not : part_in s ≡ Not → parse_log s ≡ inr tt
   parse_not e = parse_parts s ∙ ap (parted s) e
 
-  module _ (x : Step) (n from : ℕ) (e : part_in s ≡ Begins x n from) where
+  module _ (x : Step) (n : ℕ) (from : Option ℕ) (e : part_in s ≡ Begins x n from) where
     pub parse_bad : rest_from s from ≡ inr tt → parse_log s ≡ inr tt
     parse_bad rest = parse_parts s ∙ ap (parted s) e ∙ ap (begun x) rest
 
@@ -221,7 +217,7 @@ two_has letter k u = go (eqb letter 82) (eqb letter 78)
     go false true = refl
     go false false = tt
 
-of_has : (p : Parsed) (n from : ℕ) → Has n p → HasIn (part_of p n from)
+of_has : (p : Parsed) (n : ℕ) (from : Option ℕ) → Has n p → HasIn (part_of p n from)
 of_has (Good x) n from h = h
 of_has NoStep n from h = tt
 
@@ -233,21 +229,21 @@ part_has s = go (eqb (get_or s 1 0) tab)
 
     two : (k : ℕ) (f : Field) → HasIn (part_two letter k f)
     two k Bad = tt
-    two k (Last u) = of_has (two_numbers_lem letter k u) 2 0 (two_has letter k u)
-    two k (Then u j) = of_has (two_numbers_lem letter k u) 2 j (two_has letter k u)
+    two k (Last u) = of_has (two_numbers_lem letter k u) 2 None (two_has letter k u)
+    two k (Then u j) = of_has (two_numbers_lem letter k u) 2 (Some j) (two_has letter k u)
 
-    one : (k i : ℕ) (t : Parsed) → Has 1 t → HasIn (elim t [ Good x ↦ Begins x 1 i | NoStep ↦ part_two letter k (field s i) ])
+    one : (k i : ℕ) (t : Parsed) → Has 1 t → HasIn (elim t [ Good x ↦ Begins x 1 (Some i) | NoStep ↦ part_two letter k (field s i) ])
     one k i (Good x) h = h
     one k i NoStep h = two k (field s i)
 
     after : (f : Field) → HasIn (part_after s letter f)
     after Bad = tt
-    after (Last k) = of_has (one_number letter k) 1 0 (one_has letter k)
+    after (Last k) = of_has (one_number letter k) 1 None (one_has letter k)
     after (Then k i) = one k i (one_number letter k) (one_has letter k)
 
     go : (t : Bool) → HasIn (cond t (part_after s letter (field s 2)) Not)
     go true = after (field s 2)
     go false = tt
 
-pub part_numbers : (s : List ℕ) (x : Step) (n from : ℕ) → part_in s ≡ Begins x n from → n ≡ length (numbers_of x)
+pub part_numbers : (s : List ℕ) (x : Step) (n : ℕ) (from : Option ℕ) → part_in s ≡ Begins x n from → n ≡ length (numbers_of x)
 part_numbers s x n from e = subst HasIn e (part_has s)

@@ -1,14 +1,15 @@
 -- A line that is read quickly is the step that is read in full: the bytes of its step part are no line end, so the line's end comes behind
 -- them, and each digit with the tab behind it is read as its number. Before that, what the tests of `quick_part` say of the bytes.
 use Prim.Native.Nat.{ℕ, ◌+◌, ◌-◌, ◌≤◌, ◌<◌}
-use mathlib.Core.Bool.{Bool, true, false, not}
+use mathlib.Core.Bool.{Bool, true, false, cond}
 use mathlib.Core.List.{List, [], ◌∷◌, ◌++◌}
 use mathlib.Core.Path.{◌≡◌, refl, sym, ◌∙◌, ap, subst}
 use native.Mathlib.Omega.{arith}
 use lib.ListN.{length, get_or, take, drop, take-append-drop}
 use lib.Seq.{take-append-add, drop-drop}
-use borrow.Author.Tests.{ne_eqb, not-false}
-use Rattle.parts.specs.Parts.{core_no}
+use borrow.Author.Tests.{ne_eqb, eqb-true}
+use Rattle.parts.specs.Parts.{core_no, unit_no}
+use lib.Dec.{eqb}
 use Rattle.parts.specs.declared.answer.Step.{Step}
 use Rattle.parts.specs.declared.answer.Step.TheVariants.{R, N, P, I, C, L}
 use Rattle.numbers.specs.Bytes.{tab, end}
@@ -16,18 +17,17 @@ use Rattle.numbers.specs.Number.{scan, field}
 use Rattle.numbers.specs.Field.{Then}
 use Rattle.numbers.proofs.Turns.{opened}
 use Rattle.numbers.proofs.Scanning.{digits_one, scan_digits}
-use Rattle.lines.specs.Reading.{ending}
-use Rattle.lines.specs.ShortLine.{digit}
+use Rattle.lines.specs.Reading.{ending, one_number, two_numbers_lem}
+use Rattle.lines.specs.Parsed.{Parsed, Good, Not}
+use Rattle.lines.specs.Bytes.{letter_of}
 use Rattle.lines.specs.Ending.{At}
-use Rattle.lines.proofs.Shortly.{digit_says}
 use Rattle.lines.proofs.Turns.{found}
 use Rattle.writing.specs.Writing.{numbers_of}
 use Rattle.loglines.specs.Log.{log_most}
 use Rattle.loglines.specs.Parts.{part_longer, part_two, part_in}
-use Rattle.loglines.specs.Quick.{tabs, step_text, StandsAt, StepOf, OneSays, TwoSays, QuickSays}
-use Rattle.loglines.specs.declared.line.Part.TheVariants.{Step as Begins}
-use Rattle.loglines.specs.declared.quick.Quick.{Quick}
-use Rattle.loglines.specs.declared.quick.Quick.TheVariants.{Step as Found, Other}
+use Rattle.loglines.specs.Quick.{tabs, step_text, StandsAt}
+use Rattle.std.specs.Prelude.{Some}
+use Rattle.loglines.specs.Parts.{Begins}
 
 -- Numbers of one digit
 
@@ -37,15 +37,51 @@ tabs_one n h = rw (digits_one 9 n h)
 tabs_two : (n m : ℕ) → n < 10 → m < 10 → tabs (n ∷ m ∷ []) ≡ tab ∷ (48 + n) ∷ tab ∷ (48 + m) ∷ []
 tabs_two n m h l = rw (digits_one 9 n h, digits_one 9 m l)
 
--- a byte that was found to be a digit
-pub is_digit : (t : Bool) (b : ℕ) → t ≡ digit b → not t ≡ false → digit b ≡ true
-is_digit t b says e = sym says ∙ not-false t e
+-- A letter and its numbers are those of the step that they are read as
 
-pub digit_least : (t : Bool) (b : ℕ) → t ≡ digit b → not t ≡ false → 48 ≤ b
-digit_least t b says e = (digit_says b (is_digit t b says e)).0
+-- what a step is written by; of no step nothing
+abbrev letter_in : Parsed → ℕ
+letter_in p = elim p [ Good x ↦ letter_of x | Not ↦ 0 ]
 
-pub digit_fits : (t : Bool) (b : ℕ) → t ≡ digit b → not t ≡ false → b - 48 < 65536
-digit_fits t b says e = let w = digit_says b (is_digit t b says e) in omega arith
+abbrev numbers_in : Parsed → List ℕ
+numbers_in p = elim p [ Good x ↦ numbers_of x | Not ↦ [] ]
+
+-- a step of this letter and these numbers
+abbrev Of : ℕ → List ℕ → Step → Type 0
+Of letter ns x = (letter ≡ letter_of x) × (numbers_of x ≡ ns)
+
+of_step : (letter n : ℕ) (ns : List ℕ) (y x : Step) → eqb letter n ≡ true → n ≡ letter_of y → numbers_of y ≡ ns → Good y ≡ Good x → Of letter ns x
+of_step letter n ns y x e l m is = (eqb-true letter n e ∙ l ∙ ap letter_in is, sym (ap numbers_in is) ∙ m)
+
+one_of : (letter k : ℕ) (x : Step) → one_number letter k ≡ Good x → Of letter (k ∷ []) x
+one_of letter k x = go (eqb letter 80) (eqb letter 73) (eqb letter 67) (eqb letter 76) refl refl refl refl
+  where
+    go :
+        (p i c l : Bool) →
+        eqb letter 80 ≡ p →
+        eqb letter 73 ≡ i →
+        eqb letter 67 ≡ c →
+        eqb letter 76 ≡ l →
+        cond p (Good (P (core_no k))) (cond i (Good (I (core_no k))) (cond c (Good (C (core_no k))) (cond l (Good (L (core_no k))) Not))) ≡ Good x →
+        Of letter (k ∷ []) x
+    go true i c l e f g h is = of_step letter 80 (k ∷ []) (P (core_no k)) x e refl refl is
+    go false true c l e f g h is = of_step letter 73 (k ∷ []) (I (core_no k)) x f refl refl is
+    go false false true l e f g h is = of_step letter 67 (k ∷ []) (C (core_no k)) x g refl refl is
+    go false false false true e f g h is = of_step letter 76 (k ∷ []) (L (core_no k)) x h refl refl is
+    go false false false false e f g h is = let z : ◌≡◌ {A = ℕ} 0 1 = cc in absurd (omega arith)
+
+two_of : (letter k u : ℕ) (x : Step) → two_numbers_lem letter k u ≡ Good x → Of letter (k ∷ u ∷ []) x
+two_of letter k u x = go (eqb letter 82) (eqb letter 78) refl refl
+  where
+    go :
+        (r n : Bool) →
+        eqb letter 82 ≡ r →
+        eqb letter 78 ≡ n →
+        cond r (Good (R (core_no k) (unit_no u))) (cond n (Good (N (core_no k) (unit_no u))) Not) ≡ Good x →
+        Of letter (k ∷ u ∷ []) x
+    go true n e f is = of_step letter 82 (k ∷ u ∷ []) (R (core_no k) (unit_no u)) x e refl refl is
+    go false true e f is = of_step letter 78 (k ∷ u ∷ []) (N (core_no k) (unit_no u)) x f refl refl is
+    go false false e f is = let z : ◌≡◌ {A = ℕ} 0 1 = cc in absurd (omega arith)
 
 -- Where six bytes are left from a place on
 module _ (s : List ℕ) (at : ℕ) (h : 6 ≤ length s - at) where
@@ -63,57 +99,37 @@ module _ (s : List ℕ) (at : ℕ) (h : 6 ≤ length s - at) where
   five : drop at s ≡ get_or s at 0 ∷ byte 1 ∷ byte 2 ∷ byte 3 ∷ byte 4 ∷ drop (at + 5) s
   five = three ∙ rw (next 3 (omega arith), next 4 (omega arith))
 
-  module _ (t : byte 1 ≡ 9) (b : Bool) (says : b ≡ digit (byte 2)) (e : not b ≡ false) (u : byte 3 ≡ 9) where
-    k_small : (48 ≤ byte 2) × (byte 2 ≤ 57)
-    k_small = digit_says (byte 2) (is_digit b (byte 2) says e)
-
-    one_stands : (x : Step) (from : ℕ) → StepOf (get_or s at 0) ((byte 2 - 48) ∷ []) (at + 3) from x → StandsAt s at x from
-    one_stands x from r =
-        let w = k_small in
-        let z : 48 + (byte 2 - 48) ≡ byte 2 = omega arith in
-        let text : step_text x ≡ get_or s at 0 ∷ tab ∷ byte 2 ∷ [] =
-        rw (← r.opens, r.numbers, tabs_one (byte 2 - 48) (omega arith), z)
-        in
+  module _ (t : byte 1 ≡ 9) (w : (48 ≤ byte 2) × (byte 2 ≤ 57)) (u : byte 3 ≡ 9) (k : ℕ) (is : k ≡ byte 2 - 48) where
+    pub one_stands : (o : Parsed) (x : Step) → o ≡ one_number (get_or s at 0) k → o ≡ Good x → StandsAt s at x (at + 3)
+    one_stands o x says e =
+        let r = one_of (get_or s at 0) k x (sym says ∙ e) in
+        let z : 48 + k ≡ byte 2 = omega arith in
+        let text : step_text x ≡ get_or s at 0 ∷ tab ∷ byte 2 ∷ [] = rw (← r.0, r.1, tabs_one k (omega arith), z) in
         record {
-          short = rw r.numbers (omega arith, tt);
+          short = rw r.1 (omega arith, tt);
           text = subst (λ (l : List ℕ). take (length l) (drop at s) ≡ l) (sym text) (rw (three, t));
-          next = r.place ∙ ap (λ (l : List ℕ). at + length l) (sym text);
-          inside = omega (arith, r.place);
-          tabbed = rw r.place u;
+          next = ap (λ (l : List ℕ). at + length l) (sym text);
+          inside = omega arith;
+          tabbed = u;
         }
 
-    two_stands :
-        (x : Step) (from : ℕ) →
-        StepOf (get_or s at 0) ((byte 2 - 48) ∷ (byte 4 - 48) ∷ []) (at + 5) from x →
-        digit (byte 4) ≡ true →
-        byte 5 ≡ tab →
-        StandsAt s at x from
-    two_stands x from r d v =
-        let w = k_small in
-        let y = digit_says (byte 4) d in
-        let z : 48 + (byte 2 - 48) ≡ byte 2 = omega arith in
-        let q : 48 + (byte 4 - 48) ≡ byte 4 = omega arith in
-        let text : step_text x ≡ get_or s at 0 ∷ tab ∷ byte 2 ∷ tab ∷ byte 4 ∷ [] =
-        rw (← r.opens, r.numbers, tabs_two (byte 2 - 48) (byte 4 - 48) (omega arith) (omega arith), z, q)
-        in
+    pub two_stands :
+        (w : (48 ≤ byte 4) × (byte 4 ≤ 57)) (v : byte 5 ≡ 9) (n : ℕ) (so : n ≡ byte 4 - 48) (o : Parsed) (x : Step) →
+        o ≡ two_numbers_lem (get_or s at 0) k n →
+        o ≡ Good x →
+        StandsAt s at x (at + 5)
+    two_stands y v n so o x says e =
+        let r = two_of (get_or s at 0) k n x (sym says ∙ e) in
+        let z : 48 + k ≡ byte 2 = omega arith in
+        let q : 48 + n ≡ byte 4 = omega arith in
+        let text : step_text x ≡ get_or s at 0 ∷ tab ∷ byte 2 ∷ tab ∷ byte 4 ∷ [] = rw (← r.0, r.1, tabs_two k n (omega arith) (omega arith), z, q) in
         record {
-          short = rw r.numbers (omega arith, (omega arith, tt));
+          short = rw r.1 (omega arith, (omega arith, tt));
           text = subst (λ (l : List ℕ). take (length l) (drop at s) ≡ l) (sym text) (rw (five, t, u));
-          next = r.place ∙ ap (λ (l : List ℕ). at + length l) (sym text);
-          inside = omega (arith, r.place);
-          tabbed = rw r.place v;
+          next = ap (λ (l : List ℕ). at + length l) (sym text);
+          inside = omega arith;
+          tabbed = v;
         }
-
-    pub p_stands : get_or s at 0 ≡ 80 → StandsAt s at (P (core_no (byte 2 - 48))) (at + 3)
-    p_stands l = one_stands (P (core_no (byte 2 - 48))) (at + 3) (record { opens = l; numbers = refl; place = refl })
-
-    pub one_says : (q : Quick) → OneSays (get_or s at 0) (byte 2 - 48) (at + 3) q → QuickSays s at q
-    one_says (Found x from) r = one_stands x from r
-    one_says Other r = tt
-
-    pub two_says : (q : Quick) → TwoSays (get_or s at 0) (byte 2 - 48) (byte 4) (byte 5) (at + 5) q → QuickSays s at q
-    two_says (Found x from) r = two_stands x from r.0 r.1 r.2
-    two_says Other r = tt
 
 -- The line in full
 
@@ -172,8 +188,8 @@ module _ (s : List ℕ) (at from e : ℕ) (x : Step) (r : StandsAt s at x from) 
   module _ (l k : ℕ) (d : l ≡ end → ⊥) (h : k < 10) where
     one_full :
         step_text x ≡ l ∷ tab ∷ (48 + k) ∷ [] →
-        ((b : List ℕ) → part_longer b l k 4 ≡ Begins x 1 4) →
-        part_in (take e (drop at s)) ≡ Begins x 1 (length (step_text x) + 1)
+        ((b : List ℕ) → part_longer b l k 4 ≡ Begins x 1 (Some 4)) →
+        part_in (take e (drop at s)) ≡ Begins x 1 (Some (length (step_text x) + 1))
     one_full text reads =
         let b : drop at s ≡ l ∷ tab ∷ (48 + k) ∷ tab ∷ more = begun _ text in
         let far = ends_one l k e more d h (sym (ap (ending log_most 0) b) ∙ is) in
@@ -182,15 +198,15 @@ module _ (s : List ℕ) (at from e : ℕ) (x : Step) (r : StandsAt s at x from) 
         ∙ ap part_in cut
         ∙ part_one l k h (take (e - 4) more)
         ∙ reads (l ∷ tab ∷ (48 + k) ∷ tab ∷ take (e - 4) more)
-        ∙ ap (λ (t : List ℕ). Begins x 1 (length t + 1)) (sym text)
+        ∙ ap (λ (t : List ℕ). Begins x 1 (Some (length t + 1))) (sym text)
 
     two_full :
         (u : ℕ) →
         u < 10 →
         step_text x ≡ l ∷ tab ∷ (48 + k) ∷ tab ∷ (48 + u) ∷ [] →
         ((b : List ℕ) → part_longer b l k 4 ≡ part_two l k (field b 4)) →
-        part_two l k (Then u 6) ≡ Begins x 2 6 →
-        part_in (take e (drop at s)) ≡ Begins x 2 (length (step_text x) + 1)
+        part_two l k (Then u 6) ≡ Begins x 2 (Some 6) →
+        part_in (take e (drop at s)) ≡ Begins x 2 (Some (length (step_text x) + 1))
     two_full u g text on reads =
         let b : drop at s ≡ l ∷ tab ∷ (48 + k) ∷ tab ∷ (48 + u) ∷ tab ∷ more = begun _ text in
         let far = ends_two l k e more d h u g (sym (ap (ending log_most 0) b) ∙ is) in
@@ -202,11 +218,11 @@ module _ (s : List ℕ) (at from e : ℕ) (x : Step) (r : StandsAt s at x from) 
         ∙ on (l ∷ tab ∷ (48 + k) ∷ tab ∷ (48 + u) ∷ tab ∷ rest)
         ∙ part_two_lem l k h u rest g
         ∙ reads
-        ∙ ap (λ (t : List ℕ). Begins x 2 (length t + 1)) (sym text)
+        ∙ ap (λ (t : List ℕ). Begins x 2 (Some (length t + 1))) (sym text)
 
 -- the step that is read of a line's bytes b, which end at e
 abbrev pub InFull : List ℕ → ℕ → Step → Type 0
-InFull b e x = part_in (take e b) ≡ Begins x (length (numbers_of x)) (length (step_text x) + 1)
+InFull b e x = part_in (take e b) ≡ Begins x (length (numbers_of x)) (Some (length (step_text x) + 1))
 
 pub in_full :
     (s : List ℕ) (at from e : ℕ) (x : Step) → StandsAt s at x from → ending log_most 0 (drop at s) ≡ At e → InFull (drop at s) e x

@@ -1,6 +1,8 @@
 -- A line of a captured log: "the script line's fields, then answer, ticket, number of grants, and unit and core of each grant, as the part showed
 -- them". "No log line passes 62 bytes with its end." "Lines and fields count from 1; the letter is field 1."
 use Rattle.std.specs.Prelude.{ℕ, zero, suc, ◌+◌, ◌-◌, cond, List, [], ◌∷◌, ◌⊎◌, eqb, leb, length, get_or}
+use Rattle.std.specs.Prelude.{Option, Some}
+use Rattle.std.specs.declared.option.Option.TheVariants as option
 use Rattle.std.proofs.Common.{inl, inr, ⊎_elim}
 use Rattle.ticket.specs.declared.kinds.Ticket.{Ticket}
 use Rattle.parts.specs.Answer.{number_of}
@@ -15,8 +17,16 @@ use Rattle.lines.specs.Reading.{one_number, two_numbers_lem}
 use Rattle.lines.specs.Parsed.{Parsed}
 use Rattle.lines.specs.Parsed.{Good, Not}
 use Rattle.loglines.specs.declared.seen.Off.{Off}
-use Rattle.loglines.specs.declared.seen.Seen.{Seen}
-use Rattle.loglines.specs.declared.seen.Seen.TheVariants.{Missing, Number}
+
+-- a field's number, or that there is no such field
+abbrev pub Seen : Type 0
+Seen = Option ℕ
+
+pattern abbrev pub Missing : Seen
+Missing = option.None
+
+pattern abbrev pub Number : ℕ → Seen
+Number n = Some n
 
 -- the longest log line, with its end
 abbrev pub log_most : ℕ

@@ -1,13 +1,20 @@
 -- Detail: a line whose step part has numbers of one digit each. What is said of it holds where it is read so; any other is read in full.
-use Rattle.std.specs.Prelude.{ℕ, ◌+◌, ◌-◌, ◌<◌, ◌≤◌, Bool, true, List, [], ◌∷◌, ◌++◌, ◌≡◌, length, get_or, take, drop}
+use Rattle.std.specs.Prelude.{ℕ, ◌+◌, ◌<◌, ◌≤◌, Bool, true, List, [], ◌∷◌, ◌++◌, ◌≡◌, length, get_or, take, drop, Option, Some, None}
 use Rattle.parts.specs.declared.answer.Step.{Step}
 use Rattle.numbers.specs.Bytes.{tab}
 use Rattle.digits.specs.Text.{tabbed}
 use Rattle.lines.specs.Bytes.{letter_of}
-use Rattle.lines.specs.ShortLine.{digit}
 use Rattle.writing.specs.Writing.{numbers_of}
-use Rattle.loglines.specs.declared.quick.Quick.{Quick}
-use Rattle.loglines.specs.declared.quick.Quick.TheVariants.{Step as Begins, Other}
+
+-- the step, and the place of the tab behind its part; or some other line
+abbrev pub Quick : Type 0
+Quick = Option (Step × ℕ)
+
+pattern abbrev pub Begins : Step → ℕ → Quick
+Begins x from = Some (x, from)
+
+pattern abbrev pub Other : Quick
+Other = None
 
 -- each number behind a tab
 abbrev pub tabs : List ℕ → List ℕ
@@ -30,21 +37,6 @@ pub record StandsAt (s : List ℕ) (at : ℕ) (x : Step) (from : ℕ) : Type 0 w
   pub next : from ≡ at + length (step_text x)
   pub inside : from < length s
   pub tabbed : get_or s from 0 ≡ tab
-
--- a step of this letter and these numbers, and the place behind it
-pub record StepOf (letter : ℕ) (ns : List ℕ) (behind from : ℕ) (x : Step) : Type 0 where
-  pub opens : letter ≡ letter_of x
-  pub numbers : numbers_of x ≡ ns
-  pub place : from ≡ behind
-
--- of a letter and its core's number
-abbrev pub OneSays : ℕ → ℕ → ℕ → Quick → Type 0
-OneSays letter k behind q = elim q [ Begins x from ↦ StepOf letter (k ∷ []) behind from x | Other ↦ Unit {0} ]
-
--- with a second digit d, and the byte t behind it
-abbrev pub TwoSays : ℕ → ℕ → ℕ → ℕ → ℕ → Quick → Type 0
-TwoSays letter k d t behind q =
-    elim q [ Begins x from ↦ StepOf letter (k ∷ (d - 48) ∷ []) behind from x × (digit d ≡ true) × (t ≡ tab) | Other ↦ Unit {0} ]
 
 abbrev pub QuickSays : List ℕ → ℕ → Quick → Type 0
 QuickSays s at q = elim q [ Begins x from ↦ StandsAt s at x from | Other ↦ Unit {0} ]

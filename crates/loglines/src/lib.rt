@@ -7,6 +7,6 @@ mod line;
 mod quick;
 mod seen;
 
-pub use line::{Judged, LOG_MOST, Part, all_numbers, held, log_end, step_part};
+pub use line::{Judged, LOG_MOST, Mismatch, Part, all_numbers, held, log_end, step_part};
 pub use quick::{Quick, begins, quick_part};
 pub use seen::{Given, Off, Seen};

@@ -1,21 +1,15 @@
 use borrow.Author.Rules.{rules}
-use Rattle.loglines.proofs.Rest.{at_end, at_bad, last_off, last_same, then_off, then_same}
+use Rattle.loglines.proofs.Rest.{at_end, at_bad, at_off, at_same}
 use Rattle.loglines.proofs.line.compared.Goals as goal
 
-pub returns-then-i-eq0 : goal.returns-then-i-eq0
-returns-then-i-eq0 c = search (at_end, rules)
+pub returns-then-ne : goal.returns-then-ne
+returns-then-ne c = search (at_off, rules)
 
-pub returns-in-Bad : goal.returns-in-Bad
-returns-in-Bad c = search (at_bad, rules)
+pub loop-next-preserved : goal.loop-next-preserved
+loop-next-preserved c = search (at_same, rules)
 
-pub returns-then-not-same : goal.returns-then-not-same
-returns-then-not-same c = search (last_off, rules)
+pub returns : goal.returns
+returns c = search (at_end, rules)
 
-pub returns-then-not-same-2 : goal.returns-then-not-same-2
-returns-then-not-same-2 c = search (then_off, rules)
-
-pub loop-i-preserved-else-not-same : goal.loop-i-preserved-else-not-same
-loop-i-preserved-else-not-same c = search (last_same, rules)
-
-pub loop-i-preserved : goal.loop-i-preserved
-loop-i-preserved c = search (then_same, rules)
+pub returns-in_default-read_field : goal.returns-in_default-read_field
+returns-in_default-read_field c = search (at_bad, rules)
