@@ -18,9 +18,9 @@ use Rattle.loglines.specs.Parts.{part_in, rest_from, are_numbers, judged_in}
 use Rattle.logs.specs.Checking.{given, agreed, line_judged}
 use Rattle.logs.specs.declared.call.LogStop.{LogStop}
 use Rattle.logs.specs.declared.call.LogStop.TheVariants.{Plain, Disagrees}
-use Rattle.loglines.specs.declared.line.Part.TheVariants.{Step as Begins, Not}
-use Rattle.loglines.specs.declared.line.Judged.{Judged}
-use Rattle.loglines.specs.declared.line.Judged.TheVariants.{Malformed as NoNumber, Disagrees as IsOff, Agrees}
+use Rattle.loglines.specs.Parts.{Begins, Not}
+use Rattle.loglines.specs.Parts.{Judged}
+use Rattle.loglines.specs.Parts.{Malformed as NoNumber, Disagrees as IsOff, Agrees}
 use Rattle.loglines.proofs.Parts.{parse_not, parse_bad, parse_line, part_numbers}
 
 -- the line's answer, by what its numbers come to

@@ -33,9 +33,9 @@ use Rattle.logs.specs.declared.call.Behind.{Behind}
 use Rattle.logs.specs.declared.call.Due.TheVariants.{Work}
 use Rattle.logs.specs.declared.call.Met.{Met}
 use Rattle.logs.specs.declared.call.Met.TheVariants.{Agrees}
-use Rattle.loglines.specs.declared.line.Part.TheVariants.{Step as Begins}
-use Rattle.loglines.specs.declared.line.Judged.{Judged}
-use Rattle.loglines.specs.declared.line.Judged.TheVariants.{Agrees as AllGiven}
+use Rattle.loglines.specs.Parts.{Begins}
+use Rattle.loglines.specs.Parts.{Judged}
+use Rattle.loglines.specs.Parts.{Agrees as AllGiven}
 use Rattle.loglines.proofs.Parts.{parse_bad, parse_line}
 use Rattle.loglines.proofs.Quickly.{in_full}
 use Rattle.loglines.proofs.Offs.{given_most, first_same}

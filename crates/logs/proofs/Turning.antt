@@ -42,12 +42,12 @@ use Rattle.logs.specs.declared.call.Due.{Due}
 use Rattle.logs.specs.declared.call.Due.TheVariants.{Work, Stop as Halt}
 use Rattle.logs.specs.declared.call.Met.{Met}
 use Rattle.logs.specs.declared.call.Met.TheVariants.{Agrees, Stop as Stops}
-use Rattle.loglines.specs.declared.line.Part.{Part}
-use Rattle.loglines.specs.declared.line.Part.TheVariants.{Step as Begins, Not}
-use Rattle.loglines.specs.declared.line.Judged.{Judged}
-use Rattle.loglines.specs.declared.line.Judged.TheVariants.{Malformed as NoNumber, Disagrees as IsOff, Agrees as AllGiven}
-use Rattle.loglines.specs.declared.quick.Quick.{Quick}
-use Rattle.loglines.specs.declared.quick.Quick.TheVariants.{Step as Found}
+use Rattle.loglines.specs.Parts.{Part}
+use Rattle.loglines.specs.Parts.{Begins, Not}
+use Rattle.loglines.specs.Parts.{Judged}
+use Rattle.loglines.specs.Parts.{Malformed as NoNumber, Disagrees as IsOff, Agrees as AllGiven}
+use Rattle.loglines.specs.Quick.{Quick}
+use Rattle.loglines.specs.Quick.{Begins as Found}
 use Rattle.logs.proofs.Judging.{judged_as, line_not, line_fit, line_unfit}
 use Rattle.loglines.proofs.Rest.{part_few}
 use Rattle.logs.proofs.Steady.{checking_steady}

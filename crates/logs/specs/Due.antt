@@ -21,10 +21,10 @@ use Rattle.logs.specs.declared.call.Due.{Due}
 use Rattle.logs.specs.declared.call.Due.TheVariants.{Work, Stop as Halt}
 use Rattle.logs.specs.declared.call.Met.{Met}
 use Rattle.logs.specs.declared.call.Met.TheVariants.{Agrees, Stop as Stops}
-use Rattle.loglines.specs.declared.line.Part.{Part}
-use Rattle.loglines.specs.declared.line.Part.TheVariants.{Step as Begins, Not}
-use Rattle.loglines.specs.declared.line.Judged.{Judged}
-use Rattle.loglines.specs.declared.line.Judged.TheVariants.{Malformed as NoNumber, Disagrees as IsOff, Agrees as AllGiven}
+use Rattle.loglines.specs.Parts.{Part}
+use Rattle.loglines.specs.Parts.{Begins, Not}
+use Rattle.loglines.specs.Parts.{Judged}
+use Rattle.loglines.specs.Parts.{Malformed as NoNumber, Disagrees as IsOff, Agrees as AllGiven}
 
 -- the line from a place up to its end, without it
 abbrev pub line_in : List ℕ → ℕ → ℕ → List ℕ
