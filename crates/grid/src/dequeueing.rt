@@ -1,9 +1,8 @@
 // The dequeueing method: profile D, on a table of four cores and two units.
-use crate::steps::{build, come_back, interrupt, nest, poll, release, request};
+use crate::steps::{build, come_back, each, interrupt, nest, others, poll, release, request, run};
 use block::Table;
 use parts::Profile;
 use std::io::Stdout;
-use ticket::{CoreNo, UnitNo};
 
 // Each letter in each state of core 0, and before cores that are away.
 pub(crate) fn states(out: Stdout) {
@@ -29,27 +28,12 @@ pub(crate) fn states(out: Stdout) {
 // Each letter for core 0, with units and one past them; those that do not ask for a unit for core 1; core 2's coming back; and each for a
 // core past the count.
 fn tries(out: Stdout, t: Table) {
-    request(out, t, CoreNo(0), UnitNo(0));
-    request(out, t, CoreNo(0), UnitNo(1));
-    request(out, t, CoreNo(0), UnitNo(2));
-    nest(out, t, CoreNo(0), UnitNo(0));
-    nest(out, t, CoreNo(0), UnitNo(1));
-    nest(out, t, CoreNo(0), UnitNo(2));
-    poll(out, t, CoreNo(0));
-    interrupt(out, t, CoreNo(0));
-    come_back(out, t, CoreNo(0));
-    release(out, t, CoreNo(0));
-    poll(out, t, CoreNo(1));
-    interrupt(out, t, CoreNo(1));
-    come_back(out, t, CoreNo(1));
-    release(out, t, CoreNo(1));
-    come_back(out, t, CoreNo(2));
-    request(out, t, CoreNo(4), UnitNo(2));
-    nest(out, t, CoreNo(4), UnitNo(0));
-    poll(out, t, CoreNo(4));
-    interrupt(out, t, CoreNo(4));
-    come_back(out, t, CoreNo(4));
-    release(out, t, CoreNo(4));
+    each(out, t, &[request(0, 0), request(0, 1), request(0, 2)]);
+    each(out, t, &[nest(0, 0), nest(0, 1), nest(0, 2)]);
+    others(out, t, 0);
+    others(out, t, 1);
+    each(out, t, &[come_back(2), request(4, 2), nest(4, 0)]);
+    others(out, t, 4);
 }
 
 // Core 0 idle.
@@ -59,103 +43,91 @@ pub(crate) fn begin() -> Table {
 
 // Core 0 waiting, flag clear.
 fn waiting(out: Stdout) -> Table {
-    let t = begin();
-    let t = request(out, t, CoreNo(1), UnitNo(0));
-    request(out, t, CoreNo(0), UnitNo(0))
+    run(out, begin(), &[request(1, 0), request(0, 0)])
 }
 
 // Core 0 waiting, flag set and not polled.
 fn unpolled(out: Stdout) -> Table {
-    let t = begin();
-    let t = request(out, t, CoreNo(0), UnitNo(0));
-    request(out, t, CoreNo(1), UnitNo(0))
+    run(out, begin(), &[request(0, 0), request(1, 0)])
 }
 
 // Core 0 holding.
 fn holding(out: Stdout) -> Table {
-    poll(out, unpolled(out), CoreNo(0))
+    run(out, unpolled(out), &[poll(0)])
 }
 
 // Core 0 away in line.
 pub(crate) fn away_in_line(out: Stdout) -> Table {
-    interrupt(out, waiting(out), CoreNo(0))
+    run(out, waiting(out), &[interrupt(0)])
 }
 
 // Core 0 away in line, before core 2.
 pub(crate) fn away_before_another(out: Stdout) -> Table {
-    request(out, away_in_line(out), CoreNo(2), UnitNo(0))
+    run(out, away_in_line(out), &[request(2, 0)])
 }
 
 // Core 0 dropped as its turn came, and core 2 granted.
 fn turn_came(out: Stdout) -> Table {
-    let t = poll(out, away_before_another(out), CoreNo(1));
-    release(out, t, CoreNo(1))
+    run(out, away_before_another(out), &[poll(1), release(1)])
 }
 
 // Core 0 dropped as its turn came, and the unit is free.
 fn turn_came_last(out: Stdout) -> Table {
-    let t = poll(out, away_in_line(out), CoreNo(1));
-    release(out, t, CoreNo(1))
+    run(out, away_in_line(out), &[poll(1), release(1)])
 }
 
 // Core 0 dropped, having had the flag, and core 1 granted.
 pub(crate) fn dropped_with_flag(out: Stdout) -> Table {
-    interrupt(out, unpolled(out), CoreNo(0))
+    run(out, unpolled(out), &[interrupt(0)])
 }
 
 // Core 0 dropped, having had the flag, and the unit is free.
 fn dropped_from_free(out: Stdout) -> Table {
-    let t = request(out, begin(), CoreNo(0), UnitNo(1));
-    interrupt(out, t, CoreNo(0))
+    run(out, begin(), &[request(0, 1), interrupt(0)])
 }
 
 // Core 0 with the flag, and cores 1 and 2 behind it.
 fn two_behind(out: Stdout) -> Table {
-    request(out, unpolled(out), CoreNo(2), UnitNo(0))
+    run(out, unpolled(out), &[request(2, 0)])
 }
 
 // Core 0 with the flag, and three cores behind it.
 fn three_behind(out: Stdout) -> Table {
-    request(out, two_behind(out), CoreNo(3), UnitNo(0))
+    run(out, two_behind(out), &[request(3, 0)])
 }
 
 // Core 0 holding, before one that is away and one that is not.
 fn before_one_away(out: Stdout) -> Table {
-    let t = interrupt(out, two_behind(out), CoreNo(1));
-    poll(out, t, CoreNo(0))
+    run(out, two_behind(out), &[interrupt(1), poll(0)])
 }
 
 // Core 0 holding, before two that are away and one that is not.
 fn before_two_away(out: Stdout) -> Table {
-    poll(out, unpolled_before_two_away(out), CoreNo(0))
+    run(out, unpolled_before_two_away(out), &[poll(0)])
 }
 
 // Core 0 the same, flag set and not polled.
 fn unpolled_before_two_away(out: Stdout) -> Table {
-    let t = interrupt(out, three_behind(out), CoreNo(1));
-    interrupt(out, t, CoreNo(2))
+    run(out, three_behind(out), &[interrupt(1), interrupt(2)])
 }
 
 // Core 0 holding, before three that are away.
 fn before_three_away(out: Stdout) -> Table {
-    let t = interrupt(out, three_behind(out), CoreNo(3));
-    let t = interrupt(out, t, CoreNo(2));
-    let t = interrupt(out, t, CoreNo(1));
-    poll(out, t, CoreNo(0))
+    let t = run(out, three_behind(out), &[interrupt(3), interrupt(2)]);
+    run(out, t, &[interrupt(1), poll(0)])
 }
 
 // Core 0 holding, before one that is not away and one that is.
 fn before_away_behind(out: Stdout) -> Table {
-    let t = interrupt(out, two_behind(out), CoreNo(2));
-    poll(out, t, CoreNo(0))
+    run(out, two_behind(out), &[interrupt(2), poll(0)])
 }
 
 // Core 0 back with its ticket.
 fn back_with_ticket(out: Stdout) -> Table {
-    come_back(out, away_before_another(out), CoreNo(0))
+    run(out, away_before_another(out), &[come_back(0)])
 }
 
 // Core 0 back with a new ticket.
 fn back_with_new_ticket(out: Stdout) -> Table {
-    come_back(out, dropped_with_flag(out), CoreNo(0))
+    run(out, dropped_with_flag(out), &[come_back(0)])
 }

@@ -19,7 +19,7 @@ fn main(rt: HostRuntime) {
     two_stage::stretched(out, 32767);
     two_stage::stretched(out, 32768);
     unsound::two_stage(out);
-    two_stage::ranges(out);
+    two_stage::ranges_at_ends(out);
     dequeueing::states(out);
     dropping::dropped_in_a_row(out);
     dropping::passed(out);
@@ -29,5 +29,5 @@ fn main(rt: HostRuntime) {
     dropping::ticket_ended(out);
     unsound::dequeueing(out);
     unsound::away_as_in_d(out);
-    dropping::ranges(out);
+    dropping::ranges_at_ends(out);
 }

@@ -1,10 +1,15 @@
-// A table built, a step made on it, and what they show.
-ghost use Rattle.std.specs.Prelude.{◌≤◌};
-
+// A table built, steps made on it, and what they show.
 use block::{Stepped, Table};
-use parts::{CORES, Counts, Fill, Grants, Profile};
+use parts::{CORES, Counts, Fill, Grants, Profile, Step};
 use std::io::Stdout;
-use ticket::{CoreNo, Grant, Ticket, UnitNo};
+use ticket::{CoreNo, Ticket, UnitNo};
+
+// The core past the last that a table can have, and the last two.
+pub(crate) const PAST: u16 = CORES as u16;
+
+pub(crate) const LAST: u16 = PAST - 1;
+
+pub(crate) const OTHER: u16 = PAST - 2;
 
 pub(crate) fn counts(profile: Profile, cores: u16, first: u16, second: u16) -> Counts {
     Counts {
@@ -17,92 +22,79 @@ pub(crate) fn counts(profile: Profile, cores: u16, first: u16, second: u16) -> C
 }
 
 pub(crate) fn build(profile: Profile, cores: u16, first: u16, second: u16, counter: u16) -> Table {
-    let b = building::build(counts(profile, cores, first, second), Ticket(counter));
-    b.table
+    building::build(counts(profile, cores, first, second), Ticket(counter)).table
 }
 
-// Writes what building answers to counts.
-pub(crate) fn range(out: Stdout, profile: Profile, cores: u16, first: u16, second: u16) {
-    let b = building::build(counts(profile, cores, first, second), Ticket(0));
-    let a = b.answer;
-    say_number(out, parts::number(a));
-    say(out, b"\n");
+// Writes what building answers to counts: of cores, and of units of the first class and of the second.
+pub(crate) fn ranges(out: Stdout, profile: Profile, all: &[(u16, u16, u16)]) {
+    for (cores, first, second) in all {
+        let b = building::build(counts(profile, *cores, *first, *second), Ticket(0));
+        let _ = out.println(parts::number(b.answer));
+    }
 }
 
-// The core so many before the one past the last that a table can have.
-pub(crate) fn core_before(n: u16) -> CoreNo
-    requires { n ≤ 2 }
-{
-    CoreNo(CORES as u16 - n)
+// The table with this counter.
+pub(crate) fn counted(t: Table, counter: u16) -> Table {
+    Table {
+        counter: Ticket(counter),
+        ..t
+    }
 }
 
-pub(crate) fn request(out: Stdout, t: Table, k: CoreNo, u: UnitNo) -> Table {
-    shown(out, t.request(k, u))
+pub(crate) fn request(k: u16, u: u16) -> Step {
+    Step::R(CoreNo(k), UnitNo(u))
 }
 
-pub(crate) fn nest(out: Stdout, t: Table, k: CoreNo, u: UnitNo) -> Table {
-    shown(out, t.nest(k, u))
+pub(crate) fn nest(k: u16, u: u16) -> Step {
+    Step::N(CoreNo(k), UnitNo(u))
 }
 
-pub(crate) fn poll(out: Stdout, t: Table, k: CoreNo) -> Table {
-    shown(out, t.poll(k))
+pub(crate) fn poll(k: u16) -> Step {
+    Step::P(CoreNo(k))
 }
 
-pub(crate) fn interrupt(out: Stdout, t: Table, k: CoreNo) -> Table {
-    shown(out, t.interrupt(k))
+pub(crate) fn interrupt(k: u16) -> Step {
+    Step::I(CoreNo(k))
 }
 
-pub(crate) fn come_back(out: Stdout, t: Table, k: CoreNo) -> Table {
-    shown(out, t.come_back(k))
+pub(crate) fn come_back(k: u16) -> Step {
+    Step::C(CoreNo(k))
 }
 
-pub(crate) fn release(out: Stdout, t: Table, k: CoreNo) -> Table {
-    shown(out, t.release(k))
+pub(crate) fn release(k: u16) -> Step {
+    Step::L(CoreNo(k))
+}
+
+// Makes the steps one after the other, writes what each shows, and hands back the last table.
+pub(crate) fn run(out: Stdout, t: Table, steps: &[Step]) -> Table {
+    let mut t = t;
+    for s in steps {
+        t = shown(out, t.step(*s));
+    }
+    t
+}
+
+// Makes each step on the same table, and writes what it shows.
+pub(crate) fn each(out: Stdout, t: Table, steps: &[Step]) {
+    for s in steps {
+        shown(out, t.step(*s));
+    }
+}
+
+// Each letter that asks for no unit, for core k.
+pub(crate) fn others(out: Stdout, t: Table, k: u16) {
+    each(out, t, &[poll(k), interrupt(k), come_back(k), release(k)]);
 }
 
 // Writes what a step shows, and hands back its table.
 fn shown(out: Stdout, r: Stepped) -> Table {
-    let a = r.answer;
-    let n = r.ticket;
-    let g = r.grants;
-    say_number(out, parts::number(a));
-    field(out, n.0);
-    grants(out, g);
-    say(out, b"\n");
-    r.table
-}
-
-fn field(out: Stdout, n: u16) {
-    say(out, b"\t");
-    say_number(out, n);
-}
-
-fn say_number(out: Stdout, n: u16) {
-    let _ = out.print(n);
-}
-
-fn say(out: Stdout, text: &[u8]) {
-    let _ = out.write_all(text);
-}
-
-fn grants(out: Stdout, g: Grants) {
-    match g {
-        Grants::None => field(out, 0),
-        Grants::One(a) => {
-            field(out, 1);
-            grant(out, a);
-        }
+    let _ = print!(out; "{}\t{}\t", parts::number(r.answer), r.ticket.0);
+    let _ = match r.grants {
+        Grants::None => println!(out; "0"),
+        Grants::One(a) => println!(out; "1\t{}\t{}", a.unit.0, a.core.0),
         Grants::Two(a, b) => {
-            field(out, 2);
-            grant(out, a);
-            grant(out, b);
+            println!(out; "2\t{}\t{}\t{}\t{}", a.unit.0, a.core.0, b.unit.0, b.core.0)
         }
-    }
-}
-
-fn grant(out: Stdout, g: Grant) {
-    let u = g.unit;
-    let k = g.core;
-    field(out, u.0);
-    field(out, k.0);
+    };
+    r.table
 }
