@@ -7,7 +7,7 @@ use lib.ListN.{length, get_or, set, length-set}
 use Rattle.parts.specs.Parts.{cores, units, blank, nobody, absent_unit}
 use Rattle.parts.specs.declared.kinds.Register.{Register}
 use Rattle.parts.specs.declared.kinds.LockUnit.{LockUnit}
-use Rattle.settling.specs.Line.{flags, next}
+use Rattle.settling.specs.Line.{flags}
 use Rattle.settling.specs.Shown.{shown, shows_next_lem}
 use Rattle.block.specs.Table.{core_of, unit_of, register_of, Shaped}
 use Rattle.block.specs.Settle.{show}

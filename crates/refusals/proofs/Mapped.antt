@@ -1,15 +1,16 @@
--- What an array's `map` hands back is the list's `map`, where each call gives what h does.
-use Prim.Native.Nat.{ℕ}
+-- A list that reads at each place what h gives there is the list's `map`.
+use Prim.Native.Nat.{ℕ, ◌<◌}
 use mathlib.Core.List.{List, map}
 use mathlib.Core.Path.{◌≡◌, sym, ◌∙◌}
 use native.Mathlib.Omega.{arith}
-use lib.ListN.{length, length-map, get_or-map}
-use denote.Param.Members.{Mut, Called}
-use Rattle.std.specs.Array.{IsMapOf}
+use lib.ListN.{length, get_or, length-map, get_or-map}
 use Rattle.std.proofs.lemmas.List.{ext_get_or}
 
-module _ {F A B : Type 0} (g : Mut F (A × Unit {0}) B) (h : A → B) (gives : (p q : F) (x : A) (y : B) → Called g p (x, tt) y q → y ≡ h x) where
-  pub mapped : (d : A) (f : F) (xs : List A) (ys : List B) (n : ℕ) → length xs ≡ n → IsMapOf g f xs ys n → ys ≡ map h xs
-  mapped d f xs ys n long m =
-      ext_get_or (h d) ys (map h xs) (m.long ∙ sym (length-map xs h ∙ long))
-      (λ i l. let w = m.at i d (h d) (omega (arith, l, m.long)) in gives w.0 w.1 _ _ w.2 ∙ sym (get_or-map h xs i d))
+pub mapped :
+    {A B : Type 0} (h : A → B) (d : A) (xs : List A) (ys : List B) (n : ℕ) →
+    length xs ≡ n →
+    length ys ≡ n →
+    ((k : ℕ) → k < n → get_or ys k (h d) ≡ h (get_or xs k d)) →
+    ys ≡ map h xs
+mapped h d xs ys n long long' each =
+    ext_get_or (h d) ys (map h xs) (long' ∙ sym (length-map xs h ∙ long)) (λ k l. each k (omega (arith, l, long')) ∙ sym (get_or-map h xs k d))
