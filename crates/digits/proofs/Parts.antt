@@ -1,8 +1,9 @@
 -- A number's digits in parts: the two, three or four of a small one, and of a greater one the number without its last four digits and
 -- those four. Each is the definition's digits, taken off one after another.
-use Prim.Native.Nat.{ℕ, ◌+◌, ◌/◌, ◌%◌, ◌≤◌, ◌<◌}
+use Prim.Native.Nat.{ℕ, zero, suc, ◌+◌, ◌*◌, ◌^◌, ◌/◌, ◌%◌, ◌≤◌, ◌<◌}
+use native.Mathlib.Nat.{pow-suc, one-le-pow}
 use mathlib.Core.List.{[], ◌∷◌, ◌++◌, append_assoc}
-use mathlib.Core.Path.{◌≡◌, sym, ◌∙◌}
+use mathlib.Core.Path.{◌≡◌, refl, sym, ◌∙◌}
 use native.Mathlib.Omega.{arith}
 use lib.ListN.{length, length-append}
 use Rattle.numbers.specs.Number.{digits, decimal}
@@ -94,9 +95,15 @@ module _ (n : ℕ) where
 pub more_length : (n : ℕ) → 10000 ≤ n → n < 10000000000 → length (decimal n) ≡ length (decimal (n / 10000)) + 4
 more_length n l h = rw (more_digits n l h) (length-append (decimal (n / 10000)) (four (n % 10000)))
 
-pub most_length : (n : ℕ) → 100000000 ≤ n → n < 10000000000 → length (decimal n) ≡ length (decimal (n / 100000000)) + 8
-most_length n l h =
-    let z : n / 10000 / 10000 ≡ n / 100000000 = omega arith in
-    let a = more_length n (omega arith) h in
-    let b = more_length (n / 10000) (omega arith) (omega arith) in
-    a ∙ rw (b, z) (omega arith)
+-- and as many as the power of ten that it reaches says
+powers : (f k n : ℕ) → 10 ^ k ≤ n → n < 10 * 10 ^ k → k < f → length (digits f n) ≡ k + 1
+powers zero k n l h few = absurd (omega arith)
+powers (suc f) zero n l h few = rw (digits_one f n (omega arith)) refl
+powers (suc f) (suc k) n l h few =
+    let p = pow-suc 10 k in
+    let q = one-le-pow k 10 (omega arith) in
+    let m = length-append (digits f (n / 10)) ((48 + n % 10) ∷ []) in
+    rw (digits_more f n (omega arith)) (omega (arith, m, powers f k (n / 10) (omega arith) (omega arith) (omega arith)))
+
+pub power_width : (n k : ℕ) → 10 ^ k ≤ n → n < 10 * 10 ^ k → k < 10 → (k + 1 ≡ length (decimal n)) × (k + 1 ≤ 10)
+power_width n k l h few = (sym (powers 10 k n l h few), omega arith)

@@ -6,7 +6,7 @@ use mathlib.Core.List.{List, [], ◌∷◌, ◌++◌, append_assoc}
 use mathlib.Core.Path.{◌≡◌, refl, sym, ◌∙◌, ap, subst}
 use native.Mathlib.Numerals.{add-one}
 use native.Mathlib.Omega.{arith}
-use borrow.Author.Tests.{le-leb, leb-true}
+use borrow.Author.Tests.{le-leb}
 use lib.ListN.{length, take, drop, set, length-set, length-append, length-drop}
 use lib.Seq.{set_split, length-take-le, take-append_seam, drop-append-add, drop-drop}
 use Rattle.digits.specs.Text.{Puts}
@@ -33,9 +33,6 @@ module _ {o m : List ℕ} {at p : ℕ} {xs : List ℕ} (a : Puts o m at p xs) wh
       ap length parted
       ∙ length-append (take at o ++ xs) (drop p o)
       ∙ omega (arith, front, length-drop p o, a.fits, a.goes)
-
-  pub reaches : p ≤ length o
-  reaches = omega (arith, a.goes, a.fits)
 
   -- the bytes after the first ones fit, if all do
   pub rest : (ys : List ℕ) → at + length (xs ++ ys) ≤ length o → p + length ys ≤ length m
@@ -87,8 +84,5 @@ first o at xs ys h = omega (arith, length-append xs ys)
 
 -- what was answered to whether the bytes have room
 module _ (o : List ℕ) (at : ℕ) (xs : List ℕ) (b : Bool) (says : b ≡ fits o at xs) where
-  pub roomy : b ≡ true → at + length xs ≤ length o
-  roomy e = leb-true (at + length xs) (length o) (sym says ∙ e)
-
   pub refused : b ≡ false → (NoRoom ≡ wrote o at xs) × (o ≡ left o at xs)
   refused e = (rw (sym says ∙ e), rw (sym says ∙ e))

@@ -111,34 +111,14 @@ pub fn put_tabbed(out: &mut [u8], at: usize, n: u16) -> usize
     put_long(out, at + 1, n as u32)
 }
 
-// How many digits a number below 10,000 has.
-fn short_width(n: u32) -> usize
-    requires { n < 10000 }
-    ensures { result ≡ length (decimal n) }
-{
-    if n < 10 {
-        return 1;
-    }
-    if n < 100 {
-        return 2;
-    }
-    if n < 1000 {
-        return 3;
-    }
-    4
-}
-
 // Seam: how many digits a number has.
 pub fn width(n: u32) -> usize
     ensures { (result ≡ length (decimal n)) × (result ≤ 10) }
 {
-    if n < 10000 {
-        return short_width(n);
+    if n == 0 {
+        return 1;
     }
-    if n < 100000000 {
-        return short_width(n / 10000) + 4;
-    }
-    short_width(n / 100000000) + 8
+    n.ilog10() as usize + 1
 }
 
 // Seam: how many bytes a tab and a number are.

@@ -3,4 +3,3 @@ pub mod AsWritten
 pub mod Standing
 pub mod Lengths
 pub mod Determined
-pub mod Headed
