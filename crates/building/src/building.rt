@@ -6,7 +6,16 @@ use block::Table;
 use parts::{Answer, CORES, Counts, Fill, Profile, UNITS, empty_unit, idle, in_range};
 use ticket::Ticket;
 
-// The table that was built, with 0 or 20 for its answer.
+// The counts of the least table.
+pub const LEAST: Counts = Counts {
+    cores: 1,
+    first: 1,
+    second: 0,
+    profile: Profile::T,
+    fill: Fill::Blank,
+};
+
+// The table that was built, with 0 or 20 for its answer. Not a `Result`: `build` promises a table where it refuses too.
 #[derive(Clone, Copy)]
 pub struct Built {
     pub table: Table,
@@ -38,15 +47,8 @@ pub fn build(counts: Counts, counter: Ticket) -> Built
             answer: Answer::Done,
         }
     } else {
-        let least = Counts {
-            cores: 1,
-            first: 1,
-            second: 0,
-            profile: Profile::T,
-            fill: Fill::Blank,
-        };
         Built {
-            table: fresh(least, Ticket(0)),
+            table: fresh(LEAST, Ticket(0)),
             answer: Answer::OutOfRange,
         }
     }

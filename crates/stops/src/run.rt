@@ -3,8 +3,7 @@ ghost use Rattle.std.specs.Prelude.{◌≡◌};
 ghost use Rattle.stops.specs.Run.{beginning, stop_number};
 
 use block::Table;
-use building::build;
-use parts::{Counts, Fill, Profile};
+use building::{LEAST, build};
 use ticket::Ticket;
 
 // No step is worked after so many.
@@ -44,17 +43,10 @@ pub struct Stopped {
 pub fn beginning() -> Run
     ensures { result ≡ beginning }
 {
-    let counts = Counts {
-        cores: 1,
-        first: 1,
-        second: 0,
-        profile: Profile::T,
-        fill: Fill::Blank,
-    };
     Run {
         place: 0,
         wrote: 0,
-        table: build(counts, Ticket(0)).table,
+        table: build(LEAST, Ticket(0)).table,
         steps: 0,
         headed: false,
     }
