@@ -4,7 +4,7 @@
 // that the script has. A script without a good header is told on standard error, and nothing is written.
 #![tactic(auto)]
 
-use console::{Progress, Text, begun, explain, follow, put_number, say_unwritten, within};
+use console::{Text, every_turn, explain, say_unwritten};
 use pieces::work;
 use room::room_for;
 use stops::{Run, Stop};
@@ -12,33 +12,13 @@ use stops::{Run, Stop};
 fn main(rt: HostRuntime) {
     let mut input = [0; 65536];
     let mut output = [0; 65536];
-    every_turn(rt, &mut input, &mut output);
-}
-
-// A turn reads, works a line, or is the last, as the translator's do.
-fn every_turn(rt: HostRuntime, input: &mut [u8], output: &mut [u8]) {
-    let mut now = begun();
-    for _ in 0..u64::MAX {
-        now = turn(rt, now, input, output);
-        if !now.on {
-            return;
-        }
-    }
-}
-
-// One call, and what follows from why it stopped.
-fn turn(rt: HostRuntime, p: Progress, input: &mut [u8], output: &mut [u8]) -> Progress {
-    let have = p.have;
-    let run = p.run;
-    let s = work(run, input, have, output);
-    let why = s.why;
-    let stands = s.run;
-    let next = follow(rt, stands, have, why, Text::Script, input);
-    if next.over {
-        let n = within(have, input);
-        last(rt, next.run, why, &input[..n]);
-    }
-    next
+    every_turn(
+        rt,
+        Text::Script,
+        &mut input,
+        |run, piece| Some(work(run, piece, piece.len(), &mut output)),
+        |run, why, piece| last(rt, run, why, piece),
+    );
 }
 
 // The room for the steps that were worked, if the header was good; else what is wrong with it.
@@ -46,7 +26,7 @@ fn last(rt: HostRuntime, run: Run, why: Stop, piece: &[u8]) {
     if !run.headed {
         return explain(rt.stderr(), run, why, Text::Script, piece);
     }
-    if !put_number(rt.stdout(), room_for(run.steps as u64), b"\n") {
+    if rt.println(room_for(u64::from(run.steps))).is_err() {
         say_unwritten(rt.stderr());
     }
 }

@@ -5,25 +5,15 @@ use parts::Profile;
 
 // The letter of a case.
 pub(crate) fn letter(s: &[u8]) -> u8 {
-    if 0 < s.len() { s[0] } else { 0 }
+    byte(s, 0)
 }
 
 // The letter of the same case of profile T.
 pub(crate) fn capital(s: &[u8]) -> u8 {
-    let letter = letter(s);
-    if letter == b's' {
-        return b'S';
+    match letter(s) {
+        small @ (b's' | b'm' | b'i' | b'o' | b'h') => small.to_ascii_uppercase(),
+        letter => letter,
     }
-    if letter == b'm' {
-        return b'M';
-    }
-    if letter == b'i' {
-        return b'I';
-    }
-    if letter == b'o' {
-        return b'O';
-    }
-    if letter == b'h' { b'H' } else { letter }
 }
 
 // The profile of a case's counts.
@@ -35,40 +25,27 @@ pub(crate) fn profile(s: &[u8]) -> Profile {
     }
 }
 
-pub(crate) fn wide(b: u8) -> u16
-    ensures { result < 256 }
-{
-    b as u16
+pub(crate) fn byte(s: &[u8], at: usize) -> u8 {
+    s.get(at).copied().unwrap_or(0)
 }
 
-pub(crate) fn byte(s: &[u8], at: usize) -> u16
-    ensures { result < 256 }
-{
-    if at < s.len() { wide(s[at]) } else { 0 }
+pub(crate) fn half(s: &[u8], at: usize) -> u16 {
+    match s.get(at..) {
+        Some([low, high, ..]) => u16::from_le_bytes([*low, *high]),
+        _ => 0,
+    }
 }
 
-pub(crate) fn half(s: &[u8], at: usize) -> u16
+// A half as a length.
+pub(crate) fn count(s: &[u8], at: usize) -> usize
     ensures { result < 65536 }
 {
-    if s.len() < 2 {
-        return 0;
-    }
-    if s.len() - 2 < at {
-        return 0;
-    }
-    let low = byte(s, at);
-    let high = byte(s, at + 1);
-    low + 256 * high
+    usize::from(half(s, at))
 }
 
 pub(crate) fn word(s: &[u8], at: usize) -> u32 {
-    if s.len() < 4 {
-        return 0;
+    match s.get(at..) {
+        Some([a, b, c, d, ..]) => u32::from_le_bytes([*a, *b, *c, *d]),
+        _ => 0,
     }
-    if s.len() - 4 < at {
-        return 0;
-    }
-    let low = half(s, at) as u32;
-    let high = half(s, at + 2) as u32;
-    low + 65536 * high
 }

@@ -1,127 +1,81 @@
 // Images: words read as units, and units written as words.
-ghost use Rattle.std.specs.Prelude.{◌≡◌, length};
-
-use crate::bytes::{half, letter, word};
+use crate::bytes::{count, letter};
 use crate::next::put_next;
 use crate::register::put_register;
 use crate::table::{IMAGE_UNITS, counts, units};
-use crate::text::{field, head};
+use crate::text::Answers;
 use images::ImageRefusal;
-use parts::{CORES, LockUnit, UNITS};
+use parts::{Counts, LockUnit};
 
 // The most words that a case reads or lends.
 pub(crate) const WORDS_MOST: usize = 600;
 
-fn room() -> [u32; WORDS_MOST]
-    ensures { 600 ≡ length result }
-{
-    [0; WORDS_MOST]
-}
-
 // Document 01's number for an image's refusal.
-fn refusal_number(e: ImageRefusal) -> u32 {
+fn refusal_number(e: ImageRefusal) -> u16 {
     match e {
         ImageRefusal::OutOfRange => 20,
         ImageRefusal::BadImage => 30,
     }
 }
 
-pub(crate) fn answer_reading(s: &[u8], out: &mut [u8], wrote: usize) -> usize {
-    let mut space = room();
-    let n = half(s, 7) as usize;
-    if WORDS_MOST < n {
-        return wrote;
-    }
-    let z = 0;
-    reading(s, &mut space[z..n], out, wrote)
-}
-
-// The words of a case.
-fn read_words(s: &[u8], ws: &mut [u32]) {
-    let n = ws.len();
-    if WORDS_MOST < n {
+// The image of so many words as the case has.
+pub(crate) fn answer_reading(s: &[u8], a: &mut Answers<'_>) {
+    let mut space = [0; WORDS_MOST];
+    let (Some(words), Some(bytes)) = (space.get_mut(..count(s, 7)), s.get(9..)) else {
         return;
-    }
-    let mut i = 0;
-    while i < n {
-        ws[i] = word(s, 9 + 4 * i);
-        i += 1;
-    }
-}
-
-// The image of so many words as are lent for it.
-fn reading(s: &[u8], ws: &mut [u32], out: &mut [u8], wrote: usize) -> usize {
-    read_words(s, ws);
-    match images::read_image(counts(s), ws) {
+    };
+    read_words(bytes, words);
+    let c = counts(s);
+    match images::read_image(c, words) {
         Ok(units) => {
-            let to = head(out, wrote, letter(s), 0);
-            let each = half(s, 1) as usize + 1;
-            put_image(out, to, units, each, ws.len())
+            a.head(letter(s), 0);
+            put_image(a, c, &units);
         }
-        Err(e) => head(out, wrote, letter(s), refusal_number(e)),
+        Err(e) => a.head(letter(s), refusal_number(e)),
     }
 }
 
-// What the first n words of an image say, in its order, where a unit has so many words each.
-fn put_image(out: &mut [u8], at: usize, units: [LockUnit; UNITS], each: usize, n: usize) -> usize {
-    let mut to = at;
-    let mut i = 0;
-    while i < n {
-        to = put_place(out, to, units, each, i);
-        i += 1;
+fn read_words(s: &[u8], words: &mut [u32]) {
+    for (w, bytes) in words.iter_mut().zip(s.as_chunks().0) {
+        *w = u32::from_le_bytes(*bytes);
     }
-    to
 }
 
-// What word i of an image says: a register, and last in each unit its next in line.
-fn put_place(out: &mut [u8], at: usize, units: [LockUnit; UNITS], each: usize, i: usize) -> usize {
-    if each == 0 {
-        return at;
+// The units that an image of these counts has.
+fn put_image(a: &mut Answers<'_>, c: Counts, units: &[LockUnit]) {
+    for x in units
+        .iter()
+        .take(usize::from(c.first) + usize::from(c.second))
+    {
+        put_unit(a, c, x);
     }
-    let u = i / each;
-    let k = i % each;
-    if UNITS <= u {
-        return at;
-    }
-    let x = units[u];
-    if k == each - 1 {
-        let n = x.next;
-        return put_next(out, at, n);
-    }
-    if CORES <= k {
-        return at;
-    }
-    let r = x.registers[k];
-    put_register(out, at, r)
 }
 
-pub(crate) fn answer_writing(s: &[u8], out: &mut [u8], wrote: usize) -> usize {
-    let mut space = room();
-    let n = half(s, 7) as usize;
-    if WORDS_MOST < n {
-        return wrote;
+// Its registers, and last its next in line.
+fn put_unit(a: &mut Answers<'_>, c: Counts, x: &LockUnit) {
+    for r in x.registers.iter().take(usize::from(c.cores)) {
+        put_register(a, *r);
     }
-    let z = 0;
-    writing(s, &mut space[z..n], out, wrote)
+    put_next(a, x.next);
 }
 
-// The image written into the words lent.
-fn writing(s: &[u8], ws: &mut [u32], out: &mut [u8], wrote: usize) -> usize {
-    match images::write_image(counts(s), units(s, IMAGE_UNITS), ws) {
+// The image written into so many words as the case lends.
+pub(crate) fn answer_writing(s: &[u8], a: &mut Answers<'_>) {
+    let mut space = [0; WORDS_MOST];
+    let Some(lent) = space.get_mut(..count(s, 7)) else {
+        return;
+    };
+    match images::write_image(counts(s), units(s, IMAGE_UNITS), lent) {
         Ok(()) => {
-            let to = head(out, wrote, letter(s), 0);
-            put_words(out, to, ws)
+            a.head(letter(s), 0);
+            put_words(a, lent);
         }
-        Err(e) => head(out, wrote, letter(s), refusal_number(e)),
+        Err(e) => a.head(letter(s), refusal_number(e)),
     }
 }
 
-fn put_words(out: &mut [u8], at: usize, ws: &[u32]) -> usize {
-    let mut to = at;
-    let mut i = 0;
-    while i < ws.len() {
-        to = field(out, to, ws[i]);
-        i += 1;
+fn put_words(a: &mut Answers<'_>, words: &[u32]) {
+    for w in words {
+        a.field(*w);
     }
-    to
 }

@@ -48,240 +48,122 @@ mod table;
 mod text;
 mod writers;
 
-ghost use Rattle.std.specs.Prelude.{◌≡◌, length};
-
-use bytes::half;
+use bytes::{capital, count};
 use image::WORDS_MOST;
 use pieces::keep;
-use std::io::{Read, Stdin, Stdout};
+use std::io::Read;
 use table::{IMAGE_SIZE, TABLE_SIZE};
-use text::{eased, flush, put};
+use text::Answers;
 use writers::BYTES_MOST;
 
-// The place of the next case in the piece, how many bytes of the piece are input, how many bytes of
-// answers wait to be written, and whether to go on.
+// The place of the next case in the piece, and how many bytes of the piece are input.
 #[derive(Clone, Copy)]
-struct Progress {
+struct Place {
     at: usize,
     have: usize,
-    wrote: usize,
-    on: bool,
 }
 
-// What stands at a place: a case that was answered, with the places after it and after its answer; the
-// start of a case; or no case.
-#[derive(Clone, Copy)]
-enum Found {
-    Answered(usize, usize),
-    Cut,
-    Unknown,
-}
-
+// The piece has room for the longest case, of 65,538 bytes.
 fn main(rt: HostRuntime) {
-    let mut input = piece();
+    let mut input = [0; 131072];
     let mut out = [0; 65536];
-    every_turn(rt, &mut input, &mut out);
-}
-
-// Room for the longest case, of 65,538 bytes.
-fn piece() -> [u8; 131072]
-    ensures { 131072 ≡ length result }
-{
-    [0; 131072]
+    let mut answers = Answers {
+        to: rt.stdout(),
+        out: &mut out,
+        wrote: 0,
+    };
+    every_turn(rt, &mut input, &mut answers);
 }
 
 // A turn answers a case, reads, or is the last; no input uses them up.
-fn every_turn(rt: HostRuntime, input: &mut [u8], out: &mut [u8]) {
-    let mut now = going(0, 0, 0);
+fn every_turn(rt: HostRuntime, input: &mut [u8], a: &mut Answers<'_>) {
+    let mut now = Place { at: 0, have: 0 };
     for _ in 0..u64::MAX {
-        now = turn(rt, now, input, out);
-        if !now.on {
+        let Some(next) = turn(rt, now, input, a) else {
             return;
-        }
+        };
+        now = next;
     }
 }
 
-// The next case of the piece, and what follows from what stands there.
-fn turn(rt: HostRuntime, p: Progress, input: &mut [u8], out: &mut [u8]) -> Progress {
-    let at = p.at;
-    let have = p.have;
-    let wrote = p.wrote;
-    if input.len() < have {
-        return ended();
+// Answers the next case of the piece, or reads on where it is not all there; nothing follows what is no case.
+fn turn(rt: HostRuntime, p: Place, input: &mut [u8], a: &mut Answers<'_>) -> Option<Place> {
+    let cases = input.get(p.at..p.have)?;
+    if cases.is_empty() {
+        return read_on(rt, p, input, a);
     }
-    let z = 0;
-    match next_case(rt.stdout(), &input[z..have], at, out, wrote) {
-        Found::Answered(next, w) => going(next, have, w),
-        Found::Cut => read_on(rt, at, have, wrote, input, out),
-        Found::Unknown => {
-            flush(rt.stdout(), out, wrote);
-            ended()
-        }
-    }
-}
-
-fn going(at: usize, have: usize, wrote: usize) -> Progress {
-    Progress {
-        at,
-        have,
-        wrote,
-        on: true,
-    }
-}
-
-fn ended() -> Progress {
-    Progress {
-        at: 0,
-        have: 0,
-        wrote: 0,
-        on: false,
-    }
+    let Some(n) = size(cases) else {
+        a.flush();
+        return None;
+    };
+    let Some(case) = cases.get(..n) else {
+        return read_on(rt, p, input, a);
+    };
+    a.ease();
+    answer(case, a);
+    a.put(b"\n");
+    Some(Place {
+        at: p.at + n,
+        have: p.have,
+    })
 }
 
 // The answers go out before more is waited for. What is left of the piece moves to its front, and more
-// of the input is read after it.
-fn read_on(
-    rt: HostRuntime,
-    at: usize,
-    have: usize,
-    wrote: usize,
-    input: &mut [u8],
-    out: &[u8],
-) -> Progress {
-    if !flush(rt.stdout(), out, wrote) {
-        return ended();
+// of the input is read after it; nothing follows if there is no more.
+fn read_on(rt: HostRuntime, p: Place, input: &mut [u8], a: &mut Answers<'_>) -> Option<Place> {
+    if !a.flush() {
+        return None;
     }
-    let rest = keep(input, at, have);
-    let now = read_after(rt.stdin(), input, rest);
-    if now <= rest {
-        return ended();
-    }
-    going(0, now, 0)
-}
-
-// One read into the piece, after the bytes that were kept. Answers how many bytes there are then.
-fn read_after(cases: Stdin, input: &mut [u8], rest: usize) -> usize {
-    let mut cases = cases;
-    if input.len() < rest {
-        return 0;
-    }
-    match cases.read(&mut input[rest..]) {
-        Ok(n) => rest + n,
-        Err(_) => rest,
+    let rest = keep(input, p.at, p.have);
+    match rt.stdin().read(input.get_mut(rest..)?) {
+        Ok(n @ 1..) => Some(Place {
+            at: 0,
+            have: rest + n,
+        }),
+        _ => None,
     }
 }
 
-// The case at a place is answered if all of it is there.
-fn next_case(to: Stdout, s: &[u8], at: usize, out: &mut [u8], wrote: usize) -> Found {
-    if s.len() <= at {
-        return Found::Cut;
-    }
-    let rest = &s[at..];
-    let n = size(rest);
-    if n == 0 {
-        return Found::Unknown;
-    }
-    if rest.len() < n {
-        return Found::Cut;
-    }
-    let next = at + n;
-    let z = 0;
-    let w = answer_line(to, &rest[z..n], out, wrote);
-    Found::Answered(next, w)
-}
-
-// How many bytes the case at the front has, 0 for none. Where not even its lengths are all there, it is
+// How many bytes the case at the front has, if it is one. Where not even its lengths are all there, it is
 // more than there are.
-fn size(s: &[u8]) -> usize {
-    let letter = bytes::capital(s);
-    if letter == b'T' {
-        return 3 + half(s, 1) as usize;
+fn size(s: &[u8]) -> Option<usize> {
+    match capital(s) {
+        b'T' | b'G' => Some(3 + count(s, 1)),
+        b'B' => Some(5 + count(s, 3)),
+        b'S' => Some(TABLE_SIZE),
+        b'M' => Some(TABLE_SIZE + 5),
+        b'W' | b'P' => Some(5),
+        b'I' => image_size(s, 9 + 4 * count(s, 7)),
+        b'O' => image_size(s, IMAGE_SIZE),
+        b'H' => writers_size(s, 13),
+        b'L' => writers_size(s, 10),
+        b'E' => writers_size(s, 21),
+        _ => None,
     }
-    if letter == b'B' {
-        return 5 + half(s, 3) as usize;
-    }
-    if letter == b'G' {
-        return 3 + half(s, 1) as usize;
-    }
-    if letter == b'S' {
-        return TABLE_SIZE;
-    }
-    if letter == b'M' {
-        return TABLE_SIZE + 5;
-    }
-    if letter == b'W' {
-        return 5;
-    }
-    if letter == b'P' {
-        return 5;
-    }
-    if letter == b'I' {
-        return image_size(s, 9 + 4 * half(s, 7) as usize);
-    }
-    if letter == b'O' {
-        return image_size(s, IMAGE_SIZE);
-    }
-    writers_size(letter, half(s, 1) as usize)
 }
 
 // An image's case of so many bytes, if its number of words is in range.
-fn image_size(s: &[u8], n: usize) -> usize {
-    if WORDS_MOST < half(s, 7) as usize {
-        0
-    } else {
-        n
-    }
+fn image_size(s: &[u8], n: usize) -> Option<usize> {
+    (count(s, 7) <= WORDS_MOST).then_some(n)
 }
 
-// A writer's case, if so many bytes lent are in range.
-fn writers_size(letter: u8, lent: usize) -> usize {
-    if BYTES_MOST < lent {
-        return 0;
-    }
-    if letter == b'H' {
-        return 13;
-    }
-    if letter == b'L' {
-        return 10;
-    }
-    if letter == b'E' { 21 } else { 0 }
+// A writer's case of so many bytes, if its number of bytes lent is in range.
+fn writers_size(s: &[u8], n: usize) -> Option<usize> {
+    (count(s, 1) <= BYTES_MOST).then_some(n)
 }
 
-// The answer of a whole case and its line end. Answers the place after it in the output.
-fn answer_line(to: Stdout, s: &[u8], out: &mut [u8], wrote: usize) -> usize {
-    let at = eased(to, out, wrote);
-    let end = answer(to, s, out, at);
-    put(out, end, b"\n")
-}
-
-fn answer(to: Stdout, s: &[u8], out: &mut [u8], wrote: usize) -> usize {
-    let letter = bytes::capital(s);
-    if letter == b'T' {
-        return scripts::answer(to, s, out, wrote);
+// The answer of a whole case, but for its line end.
+fn answer(s: &[u8], a: &mut Answers<'_>) {
+    match capital(s) {
+        b'T' => scripts::answer(s, a),
+        b'B' => scripts::answer_lent(s, a),
+        b'G' => logged::answer(s, a),
+        b'S' => table::answer(s, a),
+        b'M' => methods::answer(s, a),
+        b'W' => register::answer_word(s, a),
+        b'P' => register::answer_register(s, a),
+        b'I' => image::answer_reading(s, a),
+        b'O' => image::answer_writing(s, a),
+        _ => writers::answer(s, a),
     }
-    if letter == b'B' {
-        return scripts::answer_lent(s, out, wrote);
-    }
-    if letter == b'G' {
-        return logged::answer(s, out, wrote);
-    }
-    if letter == b'S' {
-        return table::answer(s, out, wrote);
-    }
-    if letter == b'M' {
-        return methods::answer(s, out, wrote);
-    }
-    if letter == b'W' {
-        return register::answer_word(s, out, wrote);
-    }
-    if letter == b'P' {
-        return register::answer_register(s, out, wrote);
-    }
-    if letter == b'I' {
-        return image::answer_reading(s, out, wrote);
-    }
-    if letter == b'O' {
-        return image::answer_writing(s, out, wrote);
-    }
-    writers::answer(s, out, wrote)
 }

@@ -3,115 +3,78 @@ use crate::bytes::{byte, half, letter};
 use crate::next::put_next;
 use crate::register::put_register;
 use crate::table::{TABLE_SIZE, table};
-use crate::text::{field, head};
+use crate::text::Answers;
 use block::{Stepped, Table};
-use parts::{CORES, Core, Counts, Grants, LockUnit, State, UNITS};
-use ticket::{CoreNo, Grant, Ticket, UnitNo};
+use parts::{Core, Grants, LockUnit, State};
+use ticket::{CoreNo, Grant, UnitNo};
 
-pub(crate) fn answer(s: &[u8], out: &mut [u8], wrote: usize) -> usize {
+pub(crate) fn answer(s: &[u8], a: &mut Answers<'_>) {
     let x = stepped(
         table(s),
         byte(s, TABLE_SIZE),
         CoreNo(half(s, TABLE_SIZE + 1)),
         UnitNo(half(s, TABLE_SIZE + 3)),
     );
-    let a = x.answer;
-    let to = head(out, wrote, letter(s), parts::number(a) as u32);
-    let n = x.ticket;
-    let to = field(out, to, n.0 as u32);
-    let gs = x.grants;
-    let to = put_grants(out, to, gs);
-    let t = x.table;
-    put_table(out, to, t)
+    a.head(letter(s), parts::number(x.answer));
+    a.field(x.ticket.0);
+    put_grants(a, x.grants);
+    put_table(a, x.table);
 }
 
 // The method of a letter's number.
-fn stepped(t: Table, letter: u16, k: CoreNo, u: UnitNo) -> Stepped {
-    if letter == 0 {
-        return t.request(k, u);
-    }
-    if letter == 1 {
-        return t.nest(k, u);
-    }
-    if letter == 2 {
-        return t.poll(k);
-    }
-    if letter == 3 {
-        return t.interrupt(k);
-    }
-    if letter == 4 {
-        t.come_back(k)
-    } else {
-        t.release(k)
+fn stepped(t: Table, letter: u8, k: CoreNo, u: UnitNo) -> Stepped {
+    match letter {
+        0 => t.request(k, u),
+        1 => t.nest(k, u),
+        2 => t.poll(k),
+        3 => t.interrupt(k),
+        4 => t.come_back(k),
+        _ => t.release(k),
     }
 }
 
 // How many grants there are, and each.
-fn put_grants(out: &mut [u8], at: usize, gs: Grants) -> usize {
+fn put_grants(a: &mut Answers<'_>, gs: Grants) {
     match gs {
-        Grants::None => field(out, at, 0),
-        Grants::One(a) => {
-            let to = field(out, at, 1);
-            put_grant(out, to, a)
+        Grants::None => a.field(0u8),
+        Grants::One(g) => {
+            a.field(1u8);
+            put_grant(a, g);
         }
-        Grants::Two(a, b) => {
-            let to = field(out, at, 2);
-            let to = put_grant(out, to, a);
-            put_grant(out, to, b)
+        Grants::Two(g, h) => {
+            a.field(2u8);
+            put_grant(a, g);
+            put_grant(a, h);
         }
     }
 }
 
-fn put_grant(out: &mut [u8], at: usize, g: Grant) -> usize {
-    let u = g.unit;
-    let to = field(out, at, u.0 as u32);
-    let k = g.core;
-    field(out, to, k.0 as u32)
+fn put_grant(a: &mut Answers<'_>, g: Grant) {
+    a.field(g.unit.0);
+    a.field(g.core.0);
 }
 
-fn put_table(out: &mut [u8], at: usize, t: Table) -> usize {
-    let counts = t.counts;
-    let counter = t.counter;
-    let to = put_counts(out, at, counts, counter);
-    let cores = t.cores;
-    let to = put_cores(out, to, cores);
-    let units = t.units;
-    put_units(out, to, units)
-}
-
-fn put_counts(out: &mut [u8], at: usize, c: Counts, counter: Ticket) -> usize {
-    let to = field(out, at, c.cores as u32);
-    let to = field(out, to, c.first as u32);
-    let to = field(out, to, c.second as u32);
-    field(out, to, counter.0 as u32)
-}
-
-fn put_cores(out: &mut [u8], at: usize, cores: [Core; CORES]) -> usize {
-    let mut to = at;
-    let mut k = 0;
-    while k < CORES {
-        let c = cores[k];
-        to = put_core(out, to, c);
-        k += 1;
+fn put_table(a: &mut Answers<'_>, t: Table) {
+    a.field(t.counts.cores);
+    a.field(t.counts.first);
+    a.field(t.counts.second);
+    a.field(t.counter.0);
+    for c in t.cores {
+        put_core(a, c);
     }
-    to
+    put_units(a, &t.units);
 }
 
-fn put_core(out: &mut [u8], at: usize, c: Core) -> usize {
-    let own = c.own;
-    let to = field(out, at, own.0 as u32);
-    let carried = c.carried;
-    let to = field(out, to, carried.0 as u32);
-    let first = c.first;
-    let to = field(out, to, first.0 as u32);
-    let second = c.second;
-    let to = field(out, to, second.0 as u32);
-    let state = c.state;
-    field(out, to, state_number(state))
+fn put_core(a: &mut Answers<'_>, c: Core) {
+    a.field(c.own.0);
+    a.field(c.carried.0);
+    a.field(c.first.0);
+    a.field(c.second.0);
+    a.field(state_number(c.state));
 }
 
 // A state's number in a case.
-fn state_number(s: State) -> u32 {
+fn state_number(s: State) -> u8 {
     match s {
         State::Idle => 0,
         State::Waiting => 1,
@@ -124,30 +87,15 @@ fn state_number(s: State) -> u32 {
     }
 }
 
-fn put_units(out: &mut [u8], at: usize, units: [LockUnit; UNITS]) -> usize {
-    let mut to = at;
-    let mut u = 0;
-    while u < UNITS {
-        let x = units[u];
-        to = put_unit(out, to, x);
-        u += 1;
+fn put_units(a: &mut Answers<'_>, units: &[LockUnit]) {
+    for x in units {
+        put_unit(a, x);
     }
-    to
 }
 
-fn put_unit(out: &mut [u8], at: usize, x: LockUnit) -> usize {
-    let to = put_registers(out, at, x);
-    let n = x.next;
-    put_next(out, to, n)
-}
-
-fn put_registers(out: &mut [u8], at: usize, x: LockUnit) -> usize {
-    let mut to = at;
-    let mut k = 0;
-    while k < CORES {
-        let r = x.registers[k];
-        to = put_register(out, to, r);
-        k += 1;
+fn put_unit(a: &mut Answers<'_>, x: &LockUnit) {
+    for r in x.registers {
+        put_register(a, r);
     }
-    to
+    put_next(a, x.next);
 }

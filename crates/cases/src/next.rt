@@ -2,7 +2,7 @@
 ghost use Rattle.std.specs.Prelude.{◌<◌};
 
 use crate::bytes::{byte, half};
-use crate::text::{bit, field};
+use crate::text::Answers;
 use parts::{Next, next_in_line};
 use ticket::{CoreNo, Ticket};
 
@@ -15,11 +15,9 @@ pub(crate) fn next(s: &[u8], at: usize) -> Next
     next_in_line(Ticket(half(s, at)), CoreNo(half(s, at + 2)), valid, held)
 }
 
-pub(crate) fn put_next(out: &mut [u8], at: usize, n: Next) -> usize {
-    let t = n.ticket;
-    let to = field(out, at, t.0 as u32);
-    let k = n.core;
-    let to = field(out, to, k.0 as u32);
-    let to = field(out, to, bit(n.valid));
-    field(out, to, bit(n.held))
+pub(crate) fn put_next(a: &mut Answers<'_>, n: Next) {
+    a.field(n.ticket.0);
+    a.field(n.core.0);
+    a.field(n.valid);
+    a.field(n.held);
 }

@@ -1,91 +1,45 @@
 // A script's case: what the translator program writes for it, and one call with so many bytes lent.
-ghost use Rattle.std.specs.Prelude.{◌≡◌, length};
+use crate::bytes::count;
+use crate::text::Answers;
+use stops::{Stop, stop_number};
 
-use crate::bytes::half;
-use crate::text::{eased, flush, head, long_field, put};
-use std::io::Stdout;
-use stops::Run;
-
-// Document 01's number for an output that the next line does not fit.
-const NO_ROOM: u16 = 23;
-
-pub(crate) fn answer(to: Stdout, s: &[u8], out: &mut [u8], wrote: usize) -> usize {
-    if s.len() < 3 {
-        return wrote;
+pub(crate) fn answer(s: &[u8], a: &mut Answers<'_>) {
+    if let Some(script) = s.get(3..) {
+        translated(script, a);
     }
-    translated(to, &s[3..], out, wrote)
 }
 
-pub(crate) fn answer_lent(s: &[u8], out: &mut [u8], wrote: usize) -> usize {
-    if s.len() < 5 {
-        return wrote;
+pub(crate) fn answer_lent(s: &[u8], a: &mut Answers<'_>) {
+    let mut space = [0; 65536];
+    if let (Some(script), Some(lent)) = (s.get(5..), space.get_mut(..count(s, 1))) {
+        let x = translate::translate(stops::beginning(), script, lent);
+        a.head(b'B', stop_number(x.why));
+        a.field(x.run.wrote as u64);
     }
-    let mut space = lent();
-    let n = half(s, 1) as usize;
-    if 65536 < n {
-        return wrote;
-    }
-    let z = 0;
-    call_once(&s[5..], &mut space[z..n], out, wrote)
-}
-
-// Room for as many bytes as a case can lend.
-fn lent() -> [u8; 65536]
-    ensures { 65536 ≡ length result }
-{
-    [0; 65536]
-}
-
-fn call_once(script: &[u8], space: &mut [u8], out: &mut [u8], wrote: usize) -> usize {
-    let run = stops::beginning();
-    let x = translate::translate(run, script, space);
-    let why = x.why;
-    let stands = x.run;
-    let n = stops::stop_number(why);
-    let to = head(out, wrote, b'B', n as u32);
-    long_field(out, to, stands.wrote as u64)
 }
 
 // The script is translated, the output emptied whenever it is full, which a script's lines do far fewer
 // times than there are turns.
-fn translated(to: Stdout, script: &[u8], out: &mut [u8], wrote: usize) -> usize {
-    let mut run = begun(wrote);
-    let mut turns = 1000u32;
-    while 0 < turns {
-        let x = translate::translate(run, script, out);
-        let why = x.why;
-        let n = stops::stop_number(why);
+fn translated(script: &[u8], a: &mut Answers<'_>) {
+    let mut run = stops::beginning();
+    for _ in 0..1000 {
+        run.wrote = a.wrote;
+        let x = translate::translate(run, script, a.out);
         run = x.run;
-        if n != NO_ROOM {
-            return end(to, out, run.wrote, n as u32);
+        a.wrote = run.wrote;
+        if !matches!(x.why, Stop::NoRoom) {
+            return end(a, stop_number(x.why));
         }
-        run = emptied(to, run, out);
-        turns -= 1;
+        a.flush();
     }
-    0
-}
-
-// The run before its header, with its output from a place on.
-fn begun(wrote: usize) -> Run {
-    let mut r = stops::beginning();
-    r.wrote = wrote;
-    r
-}
-
-// The run with its output written.
-fn emptied(to: Stdout, run: Run, out: &[u8]) -> Run {
-    let mut r = run;
-    flush(to, out, r.wrote);
-    r.wrote = 0;
-    r
 }
 
 // The last line where the run was stopped by a number, and the answer's own last line.
-fn end(to: Stdout, out: &mut [u8], wrote: usize, n: u32) -> usize {
-    let at = eased(to, out, wrote);
-    if n == 0 {
-        return put(out, at, b"--");
+fn end(a: &mut Answers<'_>, n: u16) {
+    a.ease();
+    if n != 0 {
+        a.head(b'X', n);
+        a.put(b"\n");
     }
-    let x = head(out, at, b'X', n);
-    put(out, x, b"\n--")
+    a.put(b"--");
 }

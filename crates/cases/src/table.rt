@@ -5,7 +5,7 @@ ghost use Rattle.parts.specs.Parts.{cores};
 use crate::bytes::{byte, half, letter, profile};
 use crate::next::next;
 use crate::register::register;
-use crate::text::{bit, head};
+use crate::text::Answers;
 use block::Table;
 use parts::{CORES, Core, Counts, Fill, LockUnit, State, UNITS, empty_unit, registered};
 use ticket::{CoreNo, Ticket, UnitNo};
@@ -30,9 +30,8 @@ pub(crate) const TABLE_SIZE: usize = TABLE_UNITS + UNIT * UNITS;
 
 pub(crate) const IMAGE_SIZE: usize = IMAGE_UNITS + UNIT * UNITS;
 
-pub(crate) fn answer(s: &[u8], out: &mut [u8], wrote: usize) -> usize {
-    let t = table(s);
-    head(out, wrote, letter(s), bit(t.sound()))
+pub(crate) fn answer(s: &[u8], a: &mut Answers<'_>) {
+    a.head(letter(s), u16::from(table(s).sound()));
 }
 
 // The table, which stands first in a case.
@@ -57,14 +56,7 @@ pub(crate) fn counts(s: &[u8]) -> Counts {
 }
 
 fn cores(s: &[u8]) -> [Core; CORES] {
-    let c = core(s, 0);
-    let mut cs = [c; CORES];
-    let mut k = 0;
-    while k < CORES {
-        cs[k] = core(s, k);
-        k += 1;
-    }
-    cs
+    std::array::from_fn(|k| core(s, k))
 }
 
 // Core k, of those that stand after the counts and the counter.
@@ -82,29 +74,16 @@ fn core(s: &[u8], k: usize) -> Core
     }
 }
 
-fn state(n: u16) -> State {
-    if n == 0 {
-        return State::Idle;
-    }
-    if n == 1 {
-        return State::Waiting;
-    }
-    if n == 2 {
-        return State::Holding;
-    }
-    if n == 3 {
-        return State::WaitingSecond;
-    }
-    if n == 4 {
-        return State::HoldingBoth;
-    }
-    if n == 5 {
-        return State::Away;
-    }
-    if n == 6 {
-        State::Marked
-    } else {
-        State::Dropped
+fn state(n: u8) -> State {
+    match n {
+        0 => State::Idle,
+        1 => State::Waiting,
+        2 => State::Holding,
+        3 => State::WaitingSecond,
+        4 => State::HoldingBoth,
+        5 => State::Away,
+        6 => State::Marked,
+        _ => State::Dropped,
     }
 }
 
@@ -112,24 +91,17 @@ fn state(n: u16) -> State {
 pub(crate) fn units(s: &[u8], from: usize) -> [LockUnit; UNITS]
     requires { from < 4096 }
 {
-    let x = unit(s, 0);
-    let mut xs = [x; UNITS];
-    let mut u = 0;
-    while u < UNITS {
-        xs[u] = unit(s, from + UNIT * u);
-        u += 1;
-    }
-    xs
+    std::array::from_fn(|u| unit(s, from + UNIT * u))
 }
 
 // The unit at a place: its registers, and after them the next in line.
 fn unit(s: &[u8], at: usize) -> LockUnit
     requires { at < 16384 }
 {
-    let mut x = registers(s, at);
-    let n = next(s, at + REGISTER * CORES);
-    x.next = n;
-    x
+    LockUnit {
+        next: next(s, at + REGISTER * CORES),
+        ..registers(s, at)
+    }
 }
 
 // A unit with the registers at a place.
@@ -137,11 +109,9 @@ fn registers(s: &[u8], at: usize) -> LockUnit
     requires { at < 16384 }
 {
     let mut x = empty_unit();
-    let mut k = 0;
-    while k < CORES as u16 {
-        let r = register(s, at + REGISTER * k as usize);
+    for k in 0..CORES as u16 {
+        let r = register(s, at + REGISTER * usize::from(k));
         x = registered(x, CoreNo(k), r);
-        k += 1;
     }
     x
 }

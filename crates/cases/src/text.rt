@@ -5,65 +5,52 @@ use std::io::Stdout;
 // The room that an answer's fields never use up.
 const ROOM: usize = 32768;
 
-// Writes the answers that stand in the output.
-pub(crate) fn flush(to: Stdout, out: &[u8], wrote: usize) -> bool {
-    if out.len() < wrote {
-        return false;
-    }
-    let z = 0;
-    to.write_all(&out[z..wrote]).is_ok()
+// The answers that wait to be written: so many of the bytes lent for them.
+#[derive(Drop)]
+pub(crate) struct Answers<'a> {
+    pub(crate) to: Stdout,
+    pub(crate) out: &'a mut [u8],
+    pub(crate) wrote: usize,
 }
 
-// Makes room for an answer where little is left.
-pub(crate) fn eased(to: Stdout, out: &[u8], wrote: usize) -> usize {
-    if wrote < ROOM {
-        return wrote;
+impl Answers<'_> {
+    // Writes the answers that wait. Answers whether they could be written.
+    pub(crate) fn flush(&mut self) -> bool {
+        let (to, n) = (self.to, self.wrote);
+        let Some(text) = self.out.get(..n) else {
+            return false;
+        };
+        let sent = to.write_all(text).is_ok();
+        self.wrote = 0;
+        sent
     }
-    flush(to, out, wrote);
-    0
-}
 
-// Puts bytes at a place, as many as have room, and answers the place after them.
-pub(crate) fn put(out: &mut [u8], at: usize, text: &[u8]) -> usize {
-    let mut to = at;
-    let mut i = 0;
-    while i < text.len() {
-        if out.len() <= to {
-            return to;
+    // Makes room for an answer where little is left.
+    pub(crate) fn ease(&mut self) {
+        if self.wrote >= ROOM {
+            self.flush();
         }
-        out[to] = text[i];
-        to += 1;
-        i += 1;
     }
-    to
-}
 
-// A tab and a number.
-pub(crate) fn field(out: &mut [u8], at: usize, n: u32) -> usize {
-    long_field(out, at, n as u64)
-}
-
-pub(crate) fn long_field(out: &mut [u8], at: usize, n: u64) -> usize {
-    let mut digits = Buffer::new();
-    let to = put(out, at, b"\t");
-    put(out, to, digits.format(n).as_bytes())
-}
-
-pub(crate) fn bit(b: bool) -> u32 {
-    if b { 1 } else { 0 }
-}
-
-// A byte at a place, if there is room.
-fn put_byte(out: &mut [u8], at: usize, b: u8) -> usize {
-    if out.len() <= at {
-        return at;
+    // Puts bytes behind the answers, as many as have room.
+    pub(crate) fn put(&mut self, text: &[u8]) {
+        for b in text {
+            if let Some(place) = self.out.get_mut(self.wrote) {
+                *place = *b;
+                self.wrote += 1;
+            }
+        }
     }
-    out[at] = b;
-    at + 1
-}
 
-// A letter and a number.
-pub(crate) fn head(out: &mut [u8], at: usize, letter: u8, n: u32) -> usize {
-    let to = put_byte(out, at, letter);
-    field(out, to, n)
+    // A tab and a number.
+    pub(crate) fn field(&mut self, n: impl Into<u64>) {
+        self.put(b"\t");
+        self.put(Buffer::new().format(n.into()).as_bytes());
+    }
+
+    // A letter and a number.
+    pub(crate) fn head(&mut self, letter: u8, n: u16) {
+        self.put(&[letter]);
+        self.field(n);
+    }
 }

@@ -1,5 +1,5 @@
-// What our programs share: a piece of a text read on standard input, where a program stands in its run, and why a
-// run stopped, said on standard error.
+// What our programs share: the turns in which a text is read on standard input and worked, and why a run stopped,
+// said on standard error.
 #![tactic(auto)]
 
 mod shown;
@@ -9,12 +9,12 @@ ghost use Rattle.std.specs.Prelude.{◌≡◌};
 ghost use Rattle.console.specs.Counts.{IsPrefixLen};
 ghost use Rattle.console.specs.Line.{line_number};
 
-use crate::shown::say_shown;
+use crate::shown::{Byte, Line};
 use crate::wrong::say_fault;
 use faults::{Form, fault_at};
 use pieces::{fronted, keep};
-use std::io::{Read, Stderr, Stdin, Stdout};
-use stops::{Run, Stop};
+use std::io::{Read, Stderr};
+use stops::{Run, Stop, Stopped};
 
 // What a program reads, by the word for it.
 #[derive(Clone, Copy)]
@@ -23,55 +23,45 @@ pub enum Text {
     Log,
 }
 
-// Where a program stands: its run, how many bytes of its piece are the text's, whether it goes on, and whether the
-// run is over, so that how it ended is to be told.
+// Where a program stands.
 #[derive(Clone, Copy)]
-pub struct Progress {
-    pub run: Run,
-    pub have: usize,
-    pub on: bool,
-    pub over: bool,
-}
-
-// What a read behind the bytes that were kept gave: so many bytes there are now; the text has ended; it
-// cannot be read.
-#[derive(Clone, Copy)]
-enum More {
-    Have(usize),
+pub enum Progress {
+    // It goes on with its run, and so many bytes of its piece are the text's.
+    On(Run, usize),
+    // The run is over, so that how it ended is to be told.
+    Over(Run),
+    // Nothing is left to be told.
     Ended,
-    Failed,
 }
 
 // Before the first line.
 pub fn begun() -> Progress {
-    going(stops::beginning(), 0)
+    Progress::On(stops::beginning(), 0)
 }
 
-fn going(run: Run, have: usize) -> Progress {
-    Progress {
-        run,
-        have,
-        on: true,
-        over: false,
-    }
-}
-
-fn over(run: Run) -> Progress {
-    Progress {
-        run,
-        have: 0,
-        on: false,
-        over: true,
-    }
-}
-
-// Nothing is left to be told.
-pub fn ended(run: Run) -> Progress {
-    Progress {
-        run,
-        have: 0,
-        on: false,
-        over: false,
+// A program's turns on a text: each works a line or more of the piece, if it does not tell at once what stopped it, and
+// then reads, or is the last and tells how the run ended. A text of which every line is worked has at most 1,000,001
+// lines of so many bytes as the longest, so the turns are never used up.
+pub fn every_turn<W, T>(rt: HostRuntime, text: Text, input: &mut [u8], mut work: W, mut tell: T)
+where
+    W: FnMut(Run, &[u8]) -> Option<Stopped>,
+    T: FnMut(Run, Stop, &[u8]),
+    requires works { W.IsAlwaysCallable work }
+    requires tells { T.IsAlwaysCallable tell }
+{
+    let mut now = begun();
+    for _ in 0..u64::MAX {
+        let Progress::On(run, have) = now else {
+            return;
+        };
+        let n = within(have, input);
+        now = Progress::Ended;
+        if let Some(s) = work(run, &input[..n]) {
+            now = follow(rt, s.run, have, s.why, text, input);
+            if let Progress::Over(run) = now {
+                tell(run, s.why, &input[..n]);
+            }
+        }
     }
 }
 
@@ -86,38 +76,23 @@ pub fn follow(
     input: &mut [u8],
 ) -> Progress {
     match why {
-        Stop::Finished => read_on(rt, run, have, text, input),
-        Stop::Unfinished => read_on(rt, run, have, text, input),
-        Stop::NoRoom => going(run, have),
-        Stop::Unsound => over(run),
-        Stop::BadHeader => over(run),
-        Stop::Malformed => over(run),
-        Stop::TooMany => over(run),
+        Stop::Finished | Stop::Unfinished => read_on(rt, run, have, text, input),
+        Stop::NoRoom => Progress::On(run, have),
+        Stop::Unsound | Stop::BadHeader | Stop::Malformed | Stop::TooMany => Progress::Over(run),
     }
 }
 
 // What is left of the piece moves to its front, and more of the text is read after it.
 fn read_on(rt: HostRuntime, run: Run, have: usize, text: Text, input: &mut [u8]) -> Progress {
     let rest = keep(input, run.place, have);
-    let next = fronted(run);
-    match read_behind(rt.stdin(), input, rest) {
-        More::Have(n) => going(next, n),
-        More::Ended => over(next),
-        More::Failed => {
-            say_unread(rt.stderr(), text);
-            ended(next)
-        }
-    }
-}
-
-// More of the text is read into the piece, behind so many bytes.
-fn read_behind(text: Stdin, input: &mut [u8], rest: usize) -> More {
-    let mut text = text;
     let from = within(rest, input);
-    match text.read(&mut input[from..]) {
-        Ok(0) => More::Ended,
-        Ok(n) => More::Have(from + n),
-        Err(_) => More::Failed,
+    match rt.stdin().read(&mut input[from..]) {
+        Ok(0) => Progress::Over(fronted(run)),
+        Ok(n) => Progress::On(fronted(run), from + n),
+        Err(_) => {
+            let _ = rt.eprintln(format_args!("{} cannot be read", word(text)));
+            Progress::Ended
+        }
     }
 }
 
@@ -125,97 +100,61 @@ fn read_behind(text: Stdin, input: &mut [u8], rest: usize) -> More {
 pub fn within(n: usize, piece: &[u8]) -> usize
     ensures { IsPrefixLen result piece.now }
 {
-    if n < piece.len() { n } else { piece.len() }
+    n.min(piece.len())
 }
 
 // The number of the text's line at which the run stands: after the header, and a line for each step.
 pub fn line_number(run: Run) -> u64
     ensures { result ≡ line_number run }
 {
-    let steps = run.steps as u64;
+    let steps = u64::from(run.steps);
     if run.headed { steps + 2 } else { 1 }
-}
-
-// A number to standard output, and what comes after it. Answers whether they could be written.
-pub fn put_number(out: Stdout, n: u64, after: &[u8]) -> bool {
-    let written = out.print(n).is_ok();
-    let whole = out.write_all(after).is_ok();
-    written & whole
 }
 
 // The text's line at which the run stands, and what is wrong with it; the piece has the line's bytes.
 pub fn explain(err: Stderr, run: Run, why: Stop, text: Text, piece: &[u8]) {
     say_line(err, run);
-    reason(err, why, text, piece, run.place);
+    let at = run.place;
+    let _ = match why {
+        Stop::Finished => err.println("finished"),
+        Stop::Unsound => err.println("the table is not sound (16)"),
+        Stop::BadHeader => return refused(err, "header", Form::Header, piece, at, 20),
+        Stop::Malformed => return malformed(err, text, piece, at),
+        Stop::Unfinished => println!(err; "{} ends before the line does (22)", word(text)),
+        Stop::NoRoom => err.println("no room for the answer (23)"),
+        Stop::TooMany => err.println("a line after 1000000 steps (24)"),
+    };
 }
 
 pub fn say_line(err: Stderr, run: Run) {
-    say(err, b"line ");
-    say_number(err, line_number(run));
-    say(err, b": ");
-}
-
-fn reason(err: Stderr, why: Stop, text: Text, piece: &[u8], at: usize) {
-    match why {
-        Stop::Finished => say(err, b"finished\n"),
-        Stop::Unsound => say(err, b"the table is not sound (16)\n"),
-        Stop::BadHeader => refused(err, b"not a header: ", Form::Header, piece, at, b" (20)\n"),
-        Stop::Malformed => malformed(err, text, piece, at),
-        Stop::Unfinished => of_text(err, text, b" ends before the line does (22)\n"),
-        Stop::NoRoom => say(err, b"no room for the answer (23)\n"),
-        Stop::TooMany => say(err, b"a line after 1000000 steps (24)\n"),
-    }
+    let _ = print!(err; "line {}: ", line_number(run));
 }
 
 fn malformed(err: Stderr, text: Text, piece: &[u8], at: usize) {
     match text {
-        Text::Script => refused(
-            err,
-            b"not a step line: ",
-            Form::Script,
-            piece,
-            at,
-            b" (21)\n",
-        ),
-        Text::Log => refused(err, b"not a log line: ", Form::Log, piece, at, b" (21)\n"),
+        Text::Script => refused(err, "step line", Form::Script, piece, at, 21),
+        Text::Log => refused(err, "log line", Form::Log, piece, at, 21),
     }
 }
 
 // What is wrong with the line at a place, and the line. One that is refused has a fault.
-fn refused(err: Stderr, what: &[u8], form: Form, piece: &[u8], at: usize, number: &[u8]) {
-    say(err, what);
+fn refused(err: Stderr, what: &str, form: Form, piece: &[u8], at: usize, number: u16) {
+    let line = piece.get(at..).unwrap_or(b"");
+    let letter = Byte(line.first().copied().unwrap_or(0));
+    let _ = print!(err; "not a {what}: ");
     if let Err(f) = fault_at(form, piece, at) {
-        say_fault(err, f, form, letter_at(piece, at));
+        say_fault(err, f, form, letter);
     }
-    say_shown(err, piece, at);
-    say(err, number);
+    let _ = println!(err; ": {} ({number})", Line(line));
 }
 
-// The first byte of the line at a place, if there is one.
-fn letter_at(piece: &[u8], at: usize) -> u8 {
-    if at < piece.len() { piece[at] } else { 0 }
-}
-
-fn of_text(err: Stderr, text: Text, what: &[u8]) {
+fn word(text: Text) -> &'static str {
     match text {
-        Text::Script => say(err, b"the script"),
-        Text::Log => say(err, b"the log"),
+        Text::Script => "the script",
+        Text::Log => "the log",
     }
-    say(err, what);
-}
-
-fn say_unread(err: Stderr, text: Text) {
-    of_text(err, text, b" cannot be read\n");
 }
 
 pub fn say_unwritten(err: Stderr) {
-    say(err, b"the output cannot be written\n");
-}
-
-pub fn say(err: Stderr, text: &[u8]) {
-    let _ = err.write_all(text);
-}
-
-pub fn say_number(err: Stderr, n: u64) {
-    let _ = err.print(n);
+    let _ = err.println("the output cannot be written");
 }

@@ -1,57 +1,42 @@
 // A line as it is shown on standard error: its first bytes, those that are not printed as escapes.
-use crate::say;
-use std::io::Stderr;
+use std::fmt::{Display, Formatter, Result, Write};
 
 // So many bytes of a line are shown.
 const SHOWN_MOST: usize = 20;
 
-// The line at a place, in quotes, and dots where it goes on. What is not read yet is not waited for.
-pub(crate) fn say_shown(err: Stderr, piece: &[u8], at: usize) {
-    say(err, b": \"");
-    if say_bytes(err, piece, at) {
-        say(err, b"\"...");
-    } else {
-        say(err, b"\"");
-    }
-}
+// A line and what stands behind it, shown in quotes, with dots where it goes on. What is not read yet is not waited for.
+#[derive(Clone, Copy)]
+pub(crate) struct Line<'a>(pub(crate) &'a [u8]);
 
-// The bytes up to the line's end. Answers whether it goes on.
-fn say_bytes(err: Stderr, piece: &[u8], at: usize) -> bool {
-    let mut i = at;
-    let mut left = SHOWN_MOST;
-    while i < piece.len() {
-        let b = piece[i];
-        if b == 10 {
-            return false;
+impl Display for Line<'_> {
+    fn fmt<W: Write>(&self, f: &mut Formatter<W>) -> Result {
+        f.write_char('"')?;
+        for (i, b) in self.0.iter().enumerate() {
+            if *b == b'\n' {
+                return f.write_char('"');
+            }
+            if i == SHOWN_MOST {
+                break;
+            }
+            write!(f, "{}", Byte(*b))?;
         }
-        if left == 0 {
-            return true;
+        f.write_str("\"...")
+    }
+}
+
+// A byte, shown.
+#[derive(Clone, Copy)]
+pub(crate) struct Byte(pub(crate) u8);
+
+impl Display for Byte {
+    fn fmt<W: Write>(&self, f: &mut Formatter<W>) -> Result {
+        let b = self.0;
+        match b {
+            b'\t' => f.write_str("\\t"),
+            b'\r' => f.write_str("\\r"),
+            b'"' | b'\\' => write!(f, "\\{}", char::from(b)),
+            32..=126 => f.write_char(char::from(b)),
+            _ => write!(f, "\\x{b:02x}"),
         }
-        say_byte(err, b);
-        i += 1;
-        left -= 1;
     }
-    true
-}
-
-pub(crate) fn say_byte(err: Stderr, b: u8) {
-    if b == 9 {
-        return say(err, b"\\t");
-    }
-    if b == 13 {
-        return say(err, b"\\r");
-    }
-    if (b == b'"') | (b == b'\\') {
-        say(err, b"\\");
-        return say_plain(err, b);
-    }
-    if (32 <= b) & (b <= 126) {
-        return say_plain(err, b);
-    }
-    let _ = err.print(format_args!("\\x{b:02x}"));
-}
-
-fn say_plain(err: Stderr, b: u8) {
-    let one = [b; 1];
-    say(err, &one);
 }

@@ -1,118 +1,58 @@
 // What is wrong with a line, said on standard error.
-use crate::shown::say_byte;
-use crate::{say, say_number};
+use crate::shown::Byte;
 use faults::{Fault, Form, Wrong, longest, numbers};
 use parts::{CORES, PER_CLASS};
 use std::io::Stderr;
 
 // The line begins with this letter.
-pub(crate) fn say_fault(err: Stderr, f: Fault, form: Form, letter: u8) {
-    match f {
-        Fault::TooLong => say_length(err, longest(form)),
-        Fault::Return => say(err, b"a carriage return before its end"),
-        Fault::Empty => say(err, b"it is empty"),
-        Fault::Letter => say_letter(err, form, letter),
-        Fault::TooFew => say_fields(err, b"too few fields, ", form, letter),
-        Fault::TooMany => say_fields(err, b"too many fields, ", form, letter),
-        Fault::Field(k, w) => say_field(err, k, w),
-        Fault::Cores(n) => say_count(err, n, b" cores, and there may be 1 to ", CORES),
-        Fault::First(n) => say_count(
-            err,
-            n,
-            b" first-class units, and there may be 1 to ",
-            PER_CLASS,
-        ),
-        Fault::Second(n) => say_second(err, n, letter),
-    }
+pub(crate) fn say_fault(err: Stderr, f: Fault, form: Form, letter: Byte) {
+    let _ = match f {
+        Fault::TooLong => print!(err; "longer than {} bytes with its end", longest(form)),
+        Fault::Return => err.print("a carriage return before its end"),
+        Fault::Empty => err.print("it is empty"),
+        Fault::Letter => return say_letter(err, form, letter),
+        Fault::TooFew => return say_fields(err, "few", form, letter),
+        Fault::TooMany => return say_fields(err, "many", form, letter),
+        Fault::Field(k, w) => return say_field(err, k, w),
+        Fault::Cores(n) => print!(err; "{n} cores, and there may be 1 to {CORES}"),
+        Fault::First(n) => print!(err; "{n} first-class units, and there may be 1 to {PER_CLASS}"),
+        Fault::Second(n) => return say_second(err, n, letter),
+    };
 }
 
-fn say_length(err: Stderr, most: usize) {
-    say(err, b"longer than ");
-    say_number(err, most as u64);
-    say(err, b" bytes with its end");
-}
-
-fn say_letter(err: Stderr, form: Form, letter: u8) {
-    match form {
-        Form::Script => say_step_letter(err, letter),
-        Form::Log => say_step_letter(err, letter),
-        Form::Header => {
-            say(err, b"it begins with \"");
-            say_byte(err, letter);
-            say(err, b"\", and not with T or D");
-        }
-    }
-}
-
-fn say_step_letter(err: Stderr, letter: u8) {
-    if (letter == b'T') | (letter == b'D') {
-        return say(err, b"a header stands in line 1 only");
-    }
-    say(err, b"no step begins with \"");
-    say_byte(err, letter);
-    say(err, b"\"");
+fn say_letter(err: Stderr, form: Form, letter: Byte) {
+    let _ = match (form, letter.0) {
+        (Form::Header, _) => print!(err; "it begins with \"{letter}\", and not with T or D"),
+        (_, b'T' | b'D') => err.print("a header stands in line 1 only"),
+        _ => print!(err; "no step begins with \"{letter}\""),
+    };
 }
 
 // Only lines with a letter that has numbers have too few fields or too many.
-fn say_fields(err: Stderr, what: &[u8], form: Form, letter: u8) {
-    let n = numbers(form, letter).unwrap_or(0);
-    say(err, what);
-    say_byte(err, letter);
-    say(err, b" has ");
-    say_number(err, n as u64);
-    if n == 1 {
-        say(err, b" number");
-    } else {
-        say(err, b" numbers");
-    }
+fn say_fields(err: Stderr, many: &str, form: Form, letter: Byte) {
+    let n = numbers(form, letter.0).unwrap_or(0);
+    let s = if n == 1 { "" } else { "s" };
+    let _ = print!(err; "too {many} fields, {letter} has {n} number{s}");
 }
 
 // Field 1 is the letter.
 fn say_field(err: Stderr, k: usize, w: Wrong) {
-    match w {
-        Wrong::Space => say(err, b"a space, and one tab parts fields"),
-        Wrong::Other => say_other(err, k),
-        Wrong::Missing => say_number_field(err, k, b" is empty"),
-        Wrong::Sign => say_number_field(err, k, b" has a sign"),
-        Wrong::LeadingZero => say_number_field(err, k, b" has a leading zero"),
-        Wrong::TooGreat => say_number_field(err, k, b" is above 65535"),
-    }
-}
-
-fn say_other(err: Stderr, k: usize) {
-    if k == 1 {
-        say(err, b"no tab behind its letter");
-    } else {
-        say_number_field(err, k, b" is no number");
-    }
-}
-
-fn say_number_field(err: Stderr, k: usize, what: &[u8]) {
-    say(err, b"field ");
-    say_number(err, k as u64);
-    say(err, what);
+    let _ = match w {
+        Wrong::Space => err.print("a space, and one tab parts fields"),
+        Wrong::Other if k == 1 => err.print("no tab behind its letter"),
+        Wrong::Other => print!(err; "field {k} is no number"),
+        Wrong::Missing => print!(err; "field {k} is empty"),
+        Wrong::Sign => print!(err; "field {k} has a sign"),
+        Wrong::LeadingZero => print!(err; "field {k} has a leading zero"),
+        Wrong::TooGreat => print!(err; "field {k} is above 65535"),
+    };
 }
 
 // A header of profile D has none.
-fn say_second(err: Stderr, n: u16, letter: u8) {
-    if letter == b'D' {
-        return say_count(
-            err,
-            n,
-            b" second-class units, and in a D header there must be ",
-            0,
-        );
-    }
-    say_count(
-        err,
-        n,
-        b" second-class units, and there may be 0 to ",
-        PER_CLASS,
-    );
-}
-
-fn say_count(err: Stderr, n: u16, what: &[u8], most: usize) {
-    say_number(err, n as u64);
-    say(err, what);
-    say_number(err, most as u64);
+fn say_second(err: Stderr, n: u16, letter: Byte) {
+    let _ = if letter.0 == b'D' {
+        print!(err; "{n} second-class units, and in a D header there must be 0")
+    } else {
+        print!(err; "{n} second-class units, and there may be 0 to {PER_CLASS}")
+    };
 }

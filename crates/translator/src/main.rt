@@ -4,65 +4,40 @@
 // with the number; what stopped it is said on standard error, with the script's line.
 #![tactic(auto)]
 
-use console::{Progress, Text, begun, ended, explain, follow, put_number, say_unwritten, within};
+use console::{Text, every_turn, explain, say_unwritten, within};
 use pieces::work;
-use stops::{Run, Stop};
+use stops::{Run, Stop, Stopped, stop_number};
 
 fn main(rt: HostRuntime) {
     let mut input = [0; 65536];
     let mut output = [0; 65536];
-    every_turn(rt, &mut input, &mut output);
+    every_turn(
+        rt,
+        Text::Script,
+        &mut input,
+        |run, piece| worked(rt, run, piece, &mut output),
+        |run, why, piece| last(rt, run, why, piece),
+    );
 }
 
-// A turn reads, works a line, or is the last. A script of which every line is worked has at most
-// 1,000,001 lines of so many bytes as the longest, so the turns are never used up.
-fn every_turn(rt: HostRuntime, input: &mut [u8], output: &mut [u8]) {
-    let mut now = begun();
-    for _ in 0..u64::MAX {
-        now = turn(rt, now, input, output);
-        if !now.on {
-            return;
-        }
-    }
-}
-
-// One call, whose answers go out; and what follows from why it stopped.
-fn turn(rt: HostRuntime, p: Progress, input: &mut [u8], output: &mut [u8]) -> Progress {
-    let have = p.have;
-    let run = p.run;
-    let s = work(run, input, have, output);
-    let why = s.why;
-    let stands = s.run;
-    if !sent(rt, output, stands.wrote) {
-        return ended(stands);
-    }
-    let next = follow(rt, stands, have, why, Text::Script, input);
-    if next.over {
-        let n = within(have, input);
-        last(rt, next.run, why, &input[..n]);
-    }
-    next
-}
-
-// The answers go to standard output. Answers whether they could.
-fn sent(rt: HostRuntime, output: &[u8], wrote: usize) -> bool {
-    let n = within(wrote, output);
-    let sent = rt.write_all(&output[..n]).is_ok();
-    if !sent {
+// One call, whose answers go to standard output, if they can.
+fn worked(rt: HostRuntime, run: Run, piece: &[u8], output: &mut [u8]) -> Option<Stopped> {
+    let s = work(run, piece, piece.len(), output);
+    let n = within(s.run.wrote, output);
+    if rt.write_all(&output[..n]).is_err() {
         say_unwritten(rt.stderr());
+        return None;
     }
-    sent
+    Some(s)
 }
 
 // Stopped by the script: the last line of the output, and what is wrong with the script's line.
 fn last(rt: HostRuntime, run: Run, why: Stop, piece: &[u8]) {
-    let n = stops::stop_number(why);
+    let n = stop_number(why);
     if n == 0 {
         return;
     }
-    let letter = rt.write_all(b"X\t").is_ok();
-    let number = put_number(rt.stdout(), n as u64, b"\n");
-    if letter & number {
+    if println!(rt; "X\t{n}").is_ok() {
         explain(rt.stderr(), run, why, Text::Script, piece);
     } else {
         say_unwritten(rt.stderr());

@@ -1,9 +1,0 @@
--- `read_words` ends: the words that are left fall.
-use Rattle.std.proofs.Common.{◌≡◌, ◌-◌, length}
-use Rattle.cases.proofs.image.read_words.Given as goal
-
-abbrev pub invariant-loop-i : goal.invariant-loop-i
-invariant-loop-i l = length l.ws ≡ length l.initial.ws
-
-abbrev pub decreases-loop-i : goal.decreases-loop-i
-decreases-loop-i l = l.n - l.i

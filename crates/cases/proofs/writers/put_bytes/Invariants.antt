@@ -1,9 +1,0 @@
--- `put_bytes` ends: the bytes that are left fall.
-use Rattle.std.proofs.Common.{◌≡◌, ◌-◌, length}
-use Rattle.cases.proofs.writers.put_bytes.Given as goal
-
-abbrev pub invariant-loop-i : goal.invariant-loop-i
-invariant-loop-i l = length l.out ≡ length l.initial.out
-
-abbrev pub decreases-loop-i : goal.decreases-loop-i
-decreases-loop-i l = length l.bytes - l.i
