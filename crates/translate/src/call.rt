@@ -10,13 +10,12 @@ ghost use Rattle.calls.specs.Placed.{run_at, stopped_at};
 use block::{Table, gathered, gives_way, nexts_of, rows_of, unit_with};
 use building::build;
 use digits::Unwritten;
-use headers::HeaderLine;
 use parts::{Counts, dequeues};
 use places::{core_place, other_place, unit_place};
 use plan::{Part, Plan, plan_step};
 use refusals::{is_live, late_for, lives_of, owns_of};
 use settling::{Dropping, drop_away, passed_to, repicked, stored, with_flag};
-use stops::{Run, Stop, Stopped, Todo, due};
+use stops::{Run, Stop, Stopped, due};
 use ticket::Ticket;
 
 // The run stopped, with its table.
@@ -75,8 +74,8 @@ fn step_lines(run: Run, fit: bool, script: &[u8], out: &mut [u8]) -> Stopped
     };
     loop {
         match due(script, at.place, at.steps, fit) {
-            Todo::Stop(why) => return stopped(at, gathered(table, rows, nexts), why),
-            Todo::Work(s, next) => {
+            Err(why) => return stopped(at, gathered(table, rows, nexts), why),
+            Ok((s, next)) => {
                 let o = core_place(s);
                 let k = o.0 as usize;
                 let c = table.cores[k];
@@ -177,7 +176,7 @@ fn from_header(run: Run, script: &[u8], out: &mut [u8]) -> Stopped
     let wrote = run.wrote;
     let done = run.steps;
     match script::read_header(script, place) {
-        HeaderLine::Header(counts, counter, next) => {
+        Ok((counts, counter, next)) => {
             match writing::write_opening(out, wrote, counts, counter) {
                 Ok(w) => {
                     let opened = fresh_run(next, w, counts, counter, done);
@@ -193,13 +192,9 @@ fn from_header(run: Run, script: &[u8], out: &mut [u8]) -> Stopped
                 },
             }
         }
-        HeaderLine::BadHeader => Stopped {
+        Err(e) => Stopped {
             run,
-            why: Stop::BadHeader,
-        },
-        HeaderLine::Unfinished => Stopped {
-            run,
-            why: Stop::Unfinished,
+            why: Stop::from(e),
         },
     }
 }

@@ -41,7 +41,7 @@ use Rattle.stops.specs.declared.run.Stop.TheVariants.{NoRoom as Full}
 use Rattle.block.specs.Apart.{rows_of, nexts_of}
 use Rattle.translate.proofs.call.step_lines.Goals as goal
 use Rattle.translate.proofs.call.step_lines.Goals.{At-loop-why, then-dequeuing+then-drops, then-dequeuing+else-drops, else-dequeuing, then-drops-2, else-drops-2, then-b, else-b, then-p+then-a, then-p+else-a, else-p}
-use Rattle.translate.proofs.call.step_lines.Goals.{After-struct_known-in-Work-3-1 as Planned}
+use Rattle.translate.proofs.call.step_lines.Goals.{After-struct_known-in-Ok-3-1 as Planned}
 
 -- What the places of the code know: the loop, and a step that is planned
 
@@ -64,8 +64,8 @@ so_far c =
 abbrev table_of : Planned → Table
 table_of p = gathered p.loop-why.table p.loop-why.rows p.loop-why.nexts
 
-line : (p : Planned) → Working p.args.script.now p.loop-why.at.place p.loop-why.at.steps p.args.fit p.in-Work.s p.in-Work.next
-line p = working p.args.script.now p.loop-why.at.place p.loop-why.at.steps p.args.fit p.in-Work.s p.in-Work.next _ p.in-Work.ensures refl
+line : (p : Planned) → Working p.args.script.now p.loop-why.at.place p.loop-why.at.steps p.args.fit p.in-Ok.s p.in-Ok.next
+line p = working p.args.script.now p.loop-why.at.place p.loop-why.at.steps p.args.fit p.in-Ok.s p.in-Ok.next _ p.in-Ok.ensures refl
 
 fit : (p : Planned) → sound (table_of p) ≡ true
 fit p = sym p.loop-why.invariant.1 ∙ (line p).sound
@@ -77,7 +77,7 @@ even p = p.loop-why.invariant.3 ∙ sym p.loop-why.invariant.4
 granted : (p : Planned) → Within p.plan_step-p.result.first.winner × Within p.plan_step-p.result.second.winner
 granted p =
     let t = table_of p in
-    granted_in p.in-Work.s t.counts t.counter p.late_for-late.result (core_of t p.core_place-o.result.0) _ _ _ p.plan_step-p.ensures
+    granted_in p.in-Ok.s t.counts t.counter p.late_for-late.result (core_of t p.core_place-o.result.0) _ _ _ p.plan_step-p.ensures
 
 passed_at : (b : Best) (k w : CoreNo) → Within b → k.0 < cores → w ≡ passed_to_lem b k → w.0 < cores
 passed_at b k w h l e = rw e (passed_within b k h l)
@@ -86,10 +86,10 @@ passed_at b k w h l e = rw e (passed_within b k h l)
 ready :
     (p : Planned) →
     let r = p.if-dequeuing in
-    Ready (table_of p) p.in-Work.s p.loop-why.invariant.2 (fit p) r.drops r.d r.v r.z
+    Ready (table_of p) p.in-Ok.s p.loop-why.invariant.2 (fit p) r.drops r.d r.v r.z
 ready p =
     let l = p.loop-why in
-    let s = p.in-Work.s in
+    let s = p.in-Ok.s in
     let k = p.core_place-o in
     let i = p.unit_place-i in
     let j = p.other_place-j in
@@ -120,12 +120,12 @@ ready p =
 
 -- the plan put back, on the table without those who are dropped, is the step
 abbrev stepped : Planned → Stepped
-stepped p = put_back (skipped (table_of p) p.in-Work.s) p.core_place-o.result p.unit_place-i.result p.other_place-j.result p.plan_step-p.result
+stepped p = put_back (skipped (table_of p) p.in-Ok.s) p.core_place-o.result p.unit_place-i.result p.other_place-j.result p.plan_step-p.result
 
-does : (p : Planned) → stepped p ≡ on_sound (table_of p) p.in-Work.s
+does : (p : Planned) → stepped p ≡ on_sound (table_of p) p.in-Ok.s
 does p =
     let l = p.loop-why in
-    let s = p.in-Work.s in
+    let s = p.in-Ok.s in
     let r = p.if-dequeuing in
     in_place_apart l.table l.rows l.nexts (even p) s l.invariant.2 (fit p) p.core_place-o.result p.unit_place-i.result
     p.core_place-o.ensures p.unit_place-i.ensures p.other_place-j.result r.drops r.d r.v r.z _ _ _ _ _
@@ -139,7 +139,7 @@ bytes p = let x = p.plan_step-p.result in expected_bytes (p.loop-why.at.steps + 
 
 -- the table, its units and its tickets apart, without those who are dropped
 record Left (p : Planned) (z : Table) (rows : List (List Register)) (nexts : List Next) (lives : List Bool) (owns : List ℕ) : Type 0 where
-  so : gathered z rows nexts ≡ skipped (table_of p) p.in-Work.s
+  so : gathered z rows nexts ≡ skipped (table_of p) p.in-Ok.s
   counts : z.counts ≡ p.loop-why.table.counts
   rows_so : length rows ≡ units
   nexts_so : length nexts ≡ units
@@ -170,7 +170,7 @@ module _ (p : Planned) (z : Table) (rows : List (List Register)) (nexts : List N
         so =
             ap (λ (t : Table). gathered t rows nexts) ez ∙
             ap₂ (gathered (record { units = l.table.units; cores = r.d.cores; counts = l.table.counts; counter = l.table.counter })) er en ∙
-            dropped_here l.table l.rows l.nexts (even p) p.in-Work.s l.invariant.2 (fit p) k.result i.result k.ensures i.ensures r.drops r.d r.v r.z
+            dropped_here l.table l.rows l.nexts (even p) p.in-Ok.s l.invariant.2 (fit p) k.result i.result k.ensures i.ensures r.drops r.d r.v r.z
             (ready p) drops;
         counts = ap (λ (t : Table). t.counts) ez;
         rows_so = ap length er ∙ length-set l.rows i.result.0 _ ∙ l.invariant.3;
@@ -197,7 +197,7 @@ module _ (p : Planned) (z : Table) (rows : List (List Register)) (nexts : List N
         so =
             ap (λ (t : Table). gathered t rows nexts) ez ∙
             ap₂ (gathered l.table) er en ∙
-            kept_here l.table l.rows l.nexts (even p) p.in-Work.s l.invariant.2 (fit p) k.result i.result k.ensures i.ensures r.drops r.d r.v r.z
+            kept_here l.table l.rows l.nexts (even p) p.in-Ok.s l.invariant.2 (fit p) k.result i.result k.ensures i.ensures r.drops r.d r.v r.z
             (ready p) stays;
         counts = ap (λ (t : Table). t.counts) ez;
         rows_so = ap length er ∙ l.invariant.3;
@@ -210,10 +210,10 @@ few : (p : Planned) (n : Counts) → n ≡ p.loop-why.table.counts → n.cores �
 few p n e = subst (λ (m : Counts). m.cores ≤ cores) (sym e) (counted (table_of p) (fit p))
 
 -- what is left of the script shrinks
-less : (p : Planned) → length p.args.script.now - p.in-Work.next < length p.args.script.now - p.loop-why.at.place
+less : (p : Planned) → length p.args.script.now - p.in-Ok.next < length p.args.script.now - p.loop-why.at.place
 less p =
     let w = line p in
-    let h = read_within p.args.script.now p.loop-why.at.place p.in-Work.s p.in-Work.next w.line in
+    let h = read_within p.args.script.now p.loop-why.at.place p.in-Ok.s p.in-Ok.next w.line in
     omega (arith, h, w.more)
 
 -- The answers
@@ -234,14 +234,14 @@ loop-why-init c =
       c.dequeues-dequeuing.ensures,
     )
 
-pub returns-in-Stop : goal.returns-in-Stop
-returns-in-Stop c =
+pub returns-in-Err : goal.returns-in-Err
+returns-in-Err c =
     let a = c.args in
     let l = c.loop-why in
     let t = gathered l.table l.rows l.nexts in
-    stops a.script.now l.at.place l.at.wrote l.at.steps t a.fit l.out _ l.invariant.1 (so_far (goal.at.returns-in-Stop c).At-loop-why) _ c.in-Stop.ensures
-    c.in-Stop.why _ refl
-    (c.stopped.ensures ∙ ap (λ (z : Table). stopped_at l.at.place l.at.wrote z l.at.steps c.in-Stop.why) c.gathered.ensures)
+    stops a.script.now l.at.place l.at.wrote l.at.steps t a.fit l.out _ l.invariant.1 (so_far (goal.at.returns-in-Err c).At-loop-why) _ c.in-Err.ensures
+    c.in-Err.why _ refl
+    (c.stopped.ensures ∙ ap (λ (z : Table). stopped_at l.at.place l.at.wrote z l.at.steps c.in-Err.why) c.gathered.ensures)
 
 pub drop_away-d-requires : goal.drop_away-d-requires
 drop_away-d-requires c =
@@ -249,9 +249,9 @@ drop_away-d-requires c =
     let l = c.loop-why in
     let k = c.core_place-o in
     let i = c.unit_place-i in
-    let s = c.in-Work.s in
+    let s = c.in-Ok.s in
     let same = l.invariant.3 ∙ sym l.invariant.4 in
-    let w = working a.script.now l.at.place l.at.steps a.fit s c.in-Work.next _ c.in-Work.ensures refl in
+    let w = working a.script.now l.at.place l.at.steps a.fit s c.in-Ok.next _ c.in-Ok.ensures refl in
     let ok = sym l.invariant.1 ∙ w.sound in
     let asked =
     way_asked l.table l.rows l.nexts same s l.invariant.2 ok k.result i.result k.ensures i.ensures c.stored.result c.passed_to-w.result _
@@ -264,7 +264,7 @@ pub late_for-late-requires : goal.late_for-late-requires
 late_for-late-requires c =
     let a = c.args in
     let l = c.loop-why in
-    let w = working a.script.now l.at.place l.at.steps a.fit c.in-Work.s c.in-Work.next _ c.in-Work.ensures refl in
+    let w = working a.script.now l.at.place l.at.steps a.fit c.in-Ok.s c.in-Ok.next _ c.in-Ok.ensures refl in
     let n = counted (gathered l.table l.rows l.nexts) (sym l.invariant.1 ∙ w.sound) in
     let lives = ap length l.invariant.6 ∙ lives_long l.table.cores l.invariant.2.cores_long in
     let owns = ap length l.invariant.7 ∙ owns_long l.table.cores l.invariant.2.cores_long in
@@ -274,91 +274,91 @@ late_for-late-requires c =
 pub returns-then-not-line_fits : goal.returns-then-not-line_fits
 returns-then-not-line_fits c =
     let g = goal.at.returns-then-not-line_fits c in
-    let p = g.After-struct_known-in-Work-3-1 in
+    let p = g.After-struct_known-in-Ok-3-1 in
     let a = c.args in
     let l = c.loop-why in
     let none = refused l.out l.at.wrote (bytes p) c.line_fits.result c.line_fits.ensures c.if-not-line_fits.true in
-    no_room a.script.now l.at.place l.at.wrote l.at.steps (table_of p) a.fit l.out _ l.invariant.1 (so_far g.At-loop-why) _ c.in-Work.ensures
-    c.in-Work.s c.in-Work.next refl (stepped p) (does p) NoRoom l.out none _ refl
+    no_room a.script.now l.at.place l.at.wrote l.at.steps (table_of p) a.fit l.out _ l.invariant.1 (so_far g.At-loop-why) _ c.in-Ok.ensures
+    c.in-Ok.s c.in-Ok.next refl (stepped p) (does p) NoRoom l.out none _ refl
     (c.stopped-then-not-line_fits.ensures ∙ ap (λ (t : Table). stopped_at l.at.place l.at.wrote t l.at.steps Full) c.gathered-then-not-line_fits.ensures)
 
 pub bounds-rows-j : goal.bounds-rows-j
-bounds-rows-j c = other_in c.in-Work.s (core_of (gathered c.loop-why.table c.loop-why.rows c.loop-why.nexts) c.core_place-o.result.0) c.other_place-j.result c.other_place-j.ensures
+bounds-rows-j c = other_in c.in-Ok.s (core_of (gathered c.loop-why.table c.loop-why.rows c.loop-why.nexts) c.core_place-o.result.0) c.other_place-j.result c.other_place-j.ensures
 
 pub bounds-rows-j-then-p : goal.bounds-rows-j-then-p
-bounds-rows-j-then-p c = other_in c.in-Work.s (core_of (gathered c.loop-why.table c.loop-why.rows c.loop-why.nexts) c.core_place-o.result.0) c.other_place-j.result c.other_place-j.ensures
+bounds-rows-j-then-p c = other_in c.in-Ok.s (core_of (gathered c.loop-why.table c.loop-why.rows c.loop-why.nexts) c.core_place-o.result.0) c.other_place-j.result c.other_place-j.ensures
 
 pub bounds-nexts-j-then-p : goal.bounds-nexts-j-then-p
-bounds-nexts-j-then-p c = other_in c.in-Work.s (core_of (gathered c.loop-why.table c.loop-why.rows c.loop-why.nexts) c.core_place-o.result.0) c.other_place-j.result c.other_place-j.ensures
+bounds-nexts-j-then-p c = other_in c.in-Ok.s (core_of (gathered c.loop-why.table c.loop-why.rows c.loop-why.nexts) c.core_place-o.result.0) c.other_place-j.result c.other_place-j.ensures
 
 pub bounds-rows-j-then-b : goal.bounds-rows-j-then-b
-bounds-rows-j-then-b c = other_in c.in-Work.s (core_of (gathered c.loop-why.table c.loop-why.rows c.loop-why.nexts) c.core_place-o.result.0) c.other_place-j.result c.other_place-j.ensures
+bounds-rows-j-then-b c = other_in c.in-Ok.s (core_of (gathered c.loop-why.table c.loop-why.rows c.loop-why.nexts) c.core_place-o.result.0) c.other_place-j.result c.other_place-j.ensures
 
 pub bounds-rows-j-then-b-2 : goal.bounds-rows-j-then-b-2
-bounds-rows-j-then-b-2 c = other_in c.in-Work.s (core_of (gathered c.loop-why.table c.loop-why.rows c.loop-why.nexts) c.core_place-o.result.0) c.other_place-j.result c.other_place-j.ensures
+bounds-rows-j-then-b-2 c = other_in c.in-Ok.s (core_of (gathered c.loop-why.table c.loop-why.rows c.loop-why.nexts) c.core_place-o.result.0) c.other_place-j.result c.other_place-j.ensures
 
 pub bounds-rows-j-then-b-3 : goal.bounds-rows-j-then-b-3
-bounds-rows-j-then-b-3 c = other_in c.in-Work.s (core_of (gathered c.loop-why.table c.loop-why.rows c.loop-why.nexts) c.core_place-o.result.0) c.other_place-j.result c.other_place-j.ensures
+bounds-rows-j-then-b-3 c = other_in c.in-Ok.s (core_of (gathered c.loop-why.table c.loop-why.rows c.loop-why.nexts) c.core_place-o.result.0) c.other_place-j.result c.other_place-j.ensures
 
 pub bounds-nexts-j-then-b : goal.bounds-nexts-j-then-b
-bounds-nexts-j-then-b c = other_in c.in-Work.s (core_of (gathered c.loop-why.table c.loop-why.rows c.loop-why.nexts) c.core_place-o.result.0) c.other_place-j.result c.other_place-j.ensures
+bounds-nexts-j-then-b c = other_in c.in-Ok.s (core_of (gathered c.loop-why.table c.loop-why.rows c.loop-why.nexts) c.core_place-o.result.0) c.other_place-j.result c.other_place-j.ensures
 
 pub bounds-nexts-j-then-b-2 : goal.bounds-nexts-j-then-b-2
-bounds-nexts-j-then-b-2 c = other_in c.in-Work.s (core_of (gathered c.loop-why.table c.loop-why.rows c.loop-why.nexts) c.core_place-o.result.0) c.other_place-j.result c.other_place-j.ensures
+bounds-nexts-j-then-b-2 c = other_in c.in-Ok.s (core_of (gathered c.loop-why.table c.loop-why.rows c.loop-why.nexts) c.core_place-o.result.0) c.other_place-j.result c.other_place-j.ensures
 
 pub bounds-rows-i-after-b : goal.bounds-rows-i-after-b
-bounds-rows-i-after-b c = unit_in_lem c.in-Work.s (core_of (gathered c.loop-why.table c.loop-why.rows c.loop-why.nexts) c.core_place-o.result.0) c.unit_place-i.result c.unit_place-i.ensures
+bounds-rows-i-after-b c = unit_in_lem c.in-Ok.s (core_of (gathered c.loop-why.table c.loop-why.rows c.loop-why.nexts) c.core_place-o.result.0) c.unit_place-i.result c.unit_place-i.ensures
 
 pub bounds-nexts-i-then-p : goal.bounds-nexts-i-then-p
-bounds-nexts-i-then-p c = unit_in_lem c.in-Work.s (core_of (gathered c.loop-why.table c.loop-why.rows c.loop-why.nexts) c.core_place-o.result.0) c.unit_place-i.result c.unit_place-i.ensures
+bounds-nexts-i-then-p c = unit_in_lem c.in-Ok.s (core_of (gathered c.loop-why.table c.loop-why.rows c.loop-why.nexts) c.core_place-o.result.0) c.unit_place-i.result c.unit_place-i.ensures
 
 pub bounds-rows-i-then-a : goal.bounds-rows-i-then-a
-bounds-rows-i-then-a c = unit_in_lem c.in-Work.s (core_of (gathered c.loop-why.table c.loop-why.rows c.loop-why.nexts) c.core_place-o.result.0) c.unit_place-i.result c.unit_place-i.ensures
+bounds-rows-i-then-a c = unit_in_lem c.in-Ok.s (core_of (gathered c.loop-why.table c.loop-why.rows c.loop-why.nexts) c.core_place-o.result.0) c.unit_place-i.result c.unit_place-i.ensures
 
 pub bounds-rows-i-then-a-2 : goal.bounds-rows-i-then-a-2
-bounds-rows-i-then-a-2 c = unit_in_lem c.in-Work.s (core_of (gathered c.loop-why.table c.loop-why.rows c.loop-why.nexts) c.core_place-o.result.0) c.unit_place-i.result c.unit_place-i.ensures
+bounds-rows-i-then-a-2 c = unit_in_lem c.in-Ok.s (core_of (gathered c.loop-why.table c.loop-why.rows c.loop-why.nexts) c.core_place-o.result.0) c.unit_place-i.result c.unit_place-i.ensures
 
 pub bounds-rows-i-then-a-3 : goal.bounds-rows-i-then-a-3
-bounds-rows-i-then-a-3 c = unit_in_lem c.in-Work.s (core_of (gathered c.loop-why.table c.loop-why.rows c.loop-why.nexts) c.core_place-o.result.0) c.unit_place-i.result c.unit_place-i.ensures
+bounds-rows-i-then-a-3 c = unit_in_lem c.in-Ok.s (core_of (gathered c.loop-why.table c.loop-why.rows c.loop-why.nexts) c.core_place-o.result.0) c.unit_place-i.result c.unit_place-i.ensures
 
 pub bounds-nexts-i-then-a : goal.bounds-nexts-i-then-a
-bounds-nexts-i-then-a c = unit_in_lem c.in-Work.s (core_of (gathered c.loop-why.table c.loop-why.rows c.loop-why.nexts) c.core_place-o.result.0) c.unit_place-i.result c.unit_place-i.ensures
+bounds-nexts-i-then-a c = unit_in_lem c.in-Ok.s (core_of (gathered c.loop-why.table c.loop-why.rows c.loop-why.nexts) c.core_place-o.result.0) c.unit_place-i.result c.unit_place-i.ensures
 
 pub bounds-nexts-i-then-a-2 : goal.bounds-nexts-i-then-a-2
-bounds-nexts-i-then-a-2 c = unit_in_lem c.in-Work.s (core_of (gathered c.loop-why.table c.loop-why.rows c.loop-why.nexts) c.core_place-o.result.0) c.unit_place-i.result c.unit_place-i.ensures
+bounds-nexts-i-then-a-2 c = unit_in_lem c.in-Ok.s (core_of (gathered c.loop-why.table c.loop-why.rows c.loop-why.nexts) c.core_place-o.result.0) c.unit_place-i.result c.unit_place-i.ensures
 
-pub bounds-table-k-in-Work : goal.bounds-table-k-in-Work
-bounds-table-k-in-Work c = core_in c.in-Work.s c.core_place-o.result c.core_place-o.ensures
+pub bounds-table-k-in-Ok : goal.bounds-table-k-in-Ok
+bounds-table-k-in-Ok c = core_in c.in-Ok.s c.core_place-o.result c.core_place-o.ensures
 
 pub bounds-lives-k : goal.bounds-lives-k
-bounds-lives-k c = core_in c.in-Work.s c.core_place-o.result c.core_place-o.ensures
+bounds-lives-k c = core_in c.in-Ok.s c.core_place-o.result c.core_place-o.ensures
 
 pub bounds-owns-k : goal.bounds-owns-k
-bounds-owns-k c = core_in c.in-Work.s c.core_place-o.result c.core_place-o.ensures
+bounds-owns-k c = core_in c.in-Ok.s c.core_place-o.result c.core_place-o.ensures
 
 pub bounds-rows-w : goal.bounds-rows-w
 bounds-rows-w c =
-    let p = (goal.at.bounds-rows-w c).After-struct_known-in-Work-3-1 in
-    passed_at _ c.core_place-o.result c.passed_to-w-then-b.result (granted p).1 (core_in c.in-Work.s c.core_place-o.result c.core_place-o.ensures) c.passed_to-w-then-b.ensures
+    let p = (goal.at.bounds-rows-w c).After-struct_known-in-Ok-3-1 in
+    passed_at _ c.core_place-o.result c.passed_to-w-then-b.result (granted p).1 (core_in c.in-Ok.s c.core_place-o.result c.core_place-o.ensures) c.passed_to-w-then-b.ensures
 
 pub bounds-rows-w-then-b : goal.bounds-rows-w-then-b
 bounds-rows-w-then-b c =
-    let p = (goal.at.bounds-rows-w-then-b c).After-struct_known-in-Work-3-1 in
-    passed_at _ c.core_place-o.result c.passed_to-w-then-b.result (granted p).1 (core_in c.in-Work.s c.core_place-o.result c.core_place-o.ensures) c.passed_to-w-then-b.ensures
+    let p = (goal.at.bounds-rows-w-then-b c).After-struct_known-in-Ok-3-1 in
+    passed_at _ c.core_place-o.result c.passed_to-w-then-b.result (granted p).1 (core_in c.in-Ok.s c.core_place-o.result c.core_place-o.ensures) c.passed_to-w-then-b.ensures
 
 pub bounds-rows-w-then-a : goal.bounds-rows-w-then-a
 bounds-rows-w-then-a c =
-    let p = (goal.at.bounds-rows-w-then-a c).After-struct_known-in-Work-3-1 in
-    passed_at _ c.core_place-o.result c.passed_to-w-then-a.result (granted p).0 (core_in c.in-Work.s c.core_place-o.result c.core_place-o.ensures) c.passed_to-w-then-a.ensures
+    let p = (goal.at.bounds-rows-w-then-a c).After-struct_known-in-Ok-3-1 in
+    passed_at _ c.core_place-o.result c.passed_to-w-then-a.result (granted p).0 (core_in c.in-Ok.s c.core_place-o.result c.core_place-o.ensures) c.passed_to-w-then-a.ensures
 
 pub bounds-rows-w-then-a-2 : goal.bounds-rows-w-then-a-2
 bounds-rows-w-then-a-2 c =
-    let p = (goal.at.bounds-rows-w-then-a-2 c).After-struct_known-in-Work-3-1 in
-    passed_at _ c.core_place-o.result c.passed_to-w-then-a.result (granted p).0 (core_in c.in-Work.s c.core_place-o.result c.core_place-o.ensures) c.passed_to-w-then-a.ensures
+    let p = (goal.at.bounds-rows-w-then-a-2 c).After-struct_known-in-Ok-3-1 in
+    passed_at _ c.core_place-o.result c.passed_to-w-then-a.result (granted p).0 (core_in c.in-Ok.s c.core_place-o.result c.core_place-o.ensures) c.passed_to-w-then-a.ensures
 
 pub repicked-requires : goal.repicked-requires
 repicked-requires c =
-    let p = (goal.at.repicked-requires c).After-struct_known-in-Work-3-1 in
+    let p = (goal.at.repicked-requires c).After-struct_known-in-Ok-3-1 in
     few p c.if-drops-2.table.counts
     (elim c.if-drops-2.branch [
       | then-drops-2 w ↦ ap (λ (t : Table). t.counts) w.table-is
@@ -367,22 +367,22 @@ repicked-requires c =
 
 pub repicked-requires-then-a : goal.repicked-requires-then-a
 repicked-requires-then-a c =
-    let p = (goal.at.repicked-requires-then-a c).After-struct_known-in-Work-3-1 in
+    let p = (goal.at.repicked-requires-then-a c).After-struct_known-in-Ok-3-1 in
     few p c.if-drops-2.table.counts
     (elim c.if-drops-2.branch [
       | then-drops-2 w ↦ ap (λ (t : Table). t.counts) w.table-is
       | else-drops-2 w ↦ ap (λ (t : Table). t.counts) w.table-is
     ])
 
-pub overflow_add-at-in-Work : goal.overflow_add-at-in-Work
-overflow_add-at-in-Work c = omega (arith, (line (goal.at.overflow_add-at-in-Work c).After-struct_known-in-Work-3-1).early)
+pub overflow_add-at-in-Ok : goal.overflow_add-at-in-Ok
+overflow_add-at-in-Ok c = omega (arith, (line (goal.at.overflow_add-at-in-Ok c).After-struct_known-in-Ok-3-1).early)
 
 pub loop-why-smaller : goal.loop-why-smaller
-loop-why-smaller c = less (goal.at.loop-why-smaller c).After-struct_known-in-Work-3-1
+loop-why-smaller c = less (goal.at.loop-why-smaller c).After-struct_known-in-Ok-3-1
 
 pub loop-why-preserved : goal.loop-why-preserved
 loop-why-preserved c =
-    let p = (goal.at.loop-why-preserved c).After-struct_known-in-Work-3-1 in
+    let p = (goal.at.loop-why-preserved c).After-struct_known-in-Ok-3-1 in
     let a = c.args in
     let l = c.loop-why in
     let z = c.if-drops-2 in
@@ -392,8 +392,8 @@ loop-why-preserved c =
     let j = c.other_place-j.result in
     let x = c.plan_step-p.result in
     let n = z.table.counts.cores in
-    let unit_at : i.0 < units = unit_in_lem c.in-Work.s (core_of (gathered c.loop-why.table c.loop-why.rows c.loop-why.nexts) c.core_place-o.result.0) i c.unit_place-i.ensures in
-    let other_at : j.0 < units = other_in c.in-Work.s (core_of (gathered c.loop-why.table c.loop-why.rows c.loop-why.nexts) c.core_place-o.result.0) j c.other_place-j.ensures in
+    let unit_at : i.0 < units = unit_in_lem c.in-Ok.s (core_of (gathered c.loop-why.table c.loop-why.rows c.loop-why.nexts) c.core_place-o.result.0) i c.unit_place-i.ensures in
+    let other_at : j.0 < units = other_in c.in-Ok.s (core_of (gathered c.loop-why.table c.loop-why.rows c.loop-why.nexts) c.core_place-o.result.0) j c.other_place-j.ensures in
     let now : Left p z.table z.rows z.nexts z.lives z.owns =
     elim z.branch [
       | then-drops-2 w ↦
@@ -442,10 +442,10 @@ loop-why-preserved c =
     gathered_stepped z.table k i j x z.rows z.nexts _ _ back ∙
     ap (λ (t : Table). (put_back t k i j x).table) now.so
     in (
-      answers_on a.script.now l.at.place l.at.wrote l.at.steps (table_of p) a.fit l.out _ _ l.invariant.1 l.invariant.0 _ c.in-Work.ensures
-          c.in-Work.s c.in-Work.next refl (stepped p) (does p) c.put_line.result c.put_line.ensures _ so,
-      (line p).sound ∙ sym (ap sound so ∙ stays_sound (table_of p) c.in-Work.s (stepped p) (does p) l.invariant.2 (fit p)),
-      subst Shaped (sym so) (stays_shaped (table_of p) c.in-Work.s (stepped p) (does p) l.invariant.2 (fit p)),
+      answers_on a.script.now l.at.place l.at.wrote l.at.steps (table_of p) a.fit l.out _ _ l.invariant.1 l.invariant.0 _ c.in-Ok.ensures
+          c.in-Ok.s c.in-Ok.next refl (stepped p) (does p) c.put_line.result c.put_line.ensures _ so,
+      (line p).sound ∙ sym (ap sound so ∙ stays_sound (table_of p) c.in-Ok.s (stepped p) (does p) l.invariant.2 (fit p)),
+      subst Shaped (sym so) (stays_shaped (table_of p) c.in-Ok.s (stepped p) (does p) l.invariant.2 (fit p)),
       back.rows_so ∙ now.rows_so,
       back.nexts_so ∙ now.nexts_so,
       kept c.put_line.ensures ∙ l.invariant.5,
