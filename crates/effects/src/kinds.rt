@@ -3,7 +3,7 @@ use parts::{Answer, Core};
 use ticket::{Ticket, UnitNo};
 
 // What a core does with its registers.
-#[derive(Clone, Copy)]
+#[derive(Clone, Copy, Debug, PartialEq, Eq)]
 pub enum Move {
     // It leaves them as they are.
     Stay,
@@ -17,7 +17,7 @@ pub enum Move {
 
 // What becomes of the core and of the counter, what the core does with its registers, and the answer and the
 // ticket that the tester must see.
-#[derive(Clone, Copy)]
+#[derive(Clone, Copy, Debug, PartialEq, Eq)]
 pub struct Effect {
     pub core: Core,
     pub counter: Ticket,

@@ -15,11 +15,9 @@ fn request(u: UnitNo, counter: Ticket) -> Effect
 {
     let issued = take(counter);
     let n = issued.ticket;
-    let unit = issued.unit;
-    let after = unit.counter;
     Effect {
         core: core(n, n, u, UnitNo(0), State::Waiting),
-        counter: after,
+        counter: issued.unit.counter,
         ticket: n,
         does: Move::Enter(u, n),
         answer: Answer::Done,
@@ -30,13 +28,11 @@ fn request(u: UnitNo, counter: Ticket) -> Effect
 fn nest(u: UnitNo, counter: Ticket, c: Core) -> Effect
     ensures { result ≡ nest u counter c }
 {
-    let own = c.own;
-    let first = c.first;
     Effect {
-        core: core(own, own, first, u, State::WaitingSecond),
+        core: core(c.own, c.own, c.first, u, State::WaitingSecond),
         counter,
-        ticket: own,
-        does: Move::Enter(u, own),
+        ticket: c.own,
+        does: Move::Enter(u, c.own),
         answer: Answer::Done,
     }
 }
@@ -45,12 +41,10 @@ fn nest(u: UnitNo, counter: Ticket, c: Core) -> Effect
 fn call_off(counter: Ticket, c: Core) -> Effect
     ensures { result ≡ call_off counter c }
 {
-    let own = c.own;
-    let first = c.first;
     Effect {
-        core: core(own, own, first, UnitNo(0), State::Away),
+        core: core(c.own, c.own, c.first, UnitNo(0), State::Away),
         counter,
-        ticket: own,
+        ticket: c.own,
         does: Move::GiveUp,
         answer: Answer::Done,
     }
@@ -60,11 +54,10 @@ fn call_off(counter: Ticket, c: Core) -> Effect
 fn counts_dropped(counter: Ticket, c: Core) -> Effect
     ensures { result ≡ counts_dropped counter c }
 {
-    let own = c.own;
     Effect {
         core: dropped(c),
         counter,
-        ticket: own,
+        ticket: c.own,
         does: Move::GiveUp,
         answer: Answer::Done,
     }
@@ -74,12 +67,10 @@ fn counts_dropped(counter: Ticket, c: Core) -> Effect
 fn marked_away(counter: Ticket, c: Core) -> Effect
     ensures { result ≡ marked_away counter c }
 {
-    let own = c.own;
-    let first = c.first;
     Effect {
-        core: core(own, own, first, UnitNo(0), State::Marked),
+        core: core(c.own, c.own, c.first, UnitNo(0), State::Marked),
         counter,
-        ticket: own,
+        ticket: c.own,
         does: Move::Stay,
         answer: Answer::Done,
     }
@@ -90,9 +81,10 @@ fn dequeue(counter: Ticket, c: Core, flag: bool) -> Effect
     ensures { result ≡ dequeue counter c flag }
 {
     if flag {
-        return counts_dropped(counter, c);
+        counts_dropped(counter, c)
+    } else {
+        marked_away(counter, c)
     }
-    marked_away(counter, c)
 }
 
 // I: the profile decides.
@@ -109,13 +101,11 @@ fn interrupt(p: Profile, counter: Ticket, c: Core, flag: bool) -> Effect
 fn enter_again(counter: Ticket, c: Core) -> Effect
     ensures { result ≡ enter_again counter c }
 {
-    let own = c.own;
-    let first = c.first;
     Effect {
-        core: core(own, own, first, UnitNo(0), State::Waiting),
+        core: core(c.own, c.own, c.first, UnitNo(0), State::Waiting),
         counter,
-        ticket: own,
-        does: Move::Enter(first, own),
+        ticket: c.own,
+        does: Move::Enter(c.first, c.own),
         answer: Answer::Done,
     }
 }
@@ -124,12 +114,10 @@ fn enter_again(counter: Ticket, c: Core) -> Effect
 fn go_on(counter: Ticket, c: Core) -> Effect
     ensures { result ≡ go_on counter c }
 {
-    let own = c.own;
-    let first = c.first;
     Effect {
-        core: core(own, own, first, UnitNo(0), State::Waiting),
+        core: core(c.own, c.own, c.first, UnitNo(0), State::Waiting),
         counter,
-        ticket: own,
+        ticket: c.own,
         does: Move::Stay,
         answer: Answer::Done,
     }
@@ -139,26 +127,23 @@ fn go_on(counter: Ticket, c: Core) -> Effect
 fn come_back(counter: Ticket, c: Core) -> Effect
     ensures { result ≡ come_back counter c }
 {
-    let s = c.state;
-    let first = c.first;
-    if is_dropped(s) {
-        return request(first, counter);
+    if is_dropped(c.state) {
+        request(c.first, counter)
+    } else if is_marked(c.state) {
+        go_on(counter, c)
+    } else {
+        enter_again(counter, c)
     }
-    if is_marked(s) {
-        return go_on(counter, c);
-    }
-    enter_again(counter, c)
 }
 
 // L: gives up every register, ticket ends, idle.
 fn release(counter: Ticket, c: Core) -> Effect
     ensures { result ≡ release counter c }
 {
-    let own = c.own;
     Effect {
         core: idle(),
         counter,
-        ticket: own,
+        ticket: c.own,
         does: Move::GiveUp,
         answer: Answer::Done,
     }
@@ -169,31 +154,19 @@ fn served(s: State) -> State
     ensures { result ≡ served s }
 {
     match s {
-        State::Idle => State::Idle,
         State::Waiting => State::Holding,
-        State::Holding => State::Holding,
         State::WaitingSecond => State::HoldingBoth,
-        State::HoldingBoth => State::HoldingBoth,
-        State::Away => State::Away,
-        State::Marked => State::Marked,
-        State::Dropped => State::Dropped,
+        _ => s,
     }
 }
 
-// Whether the best ticket in line, which compares so with the own one, is carried.
+// Whether the best ticket in line, which compares so with the own one, is carried: where it is older. A younger one is not; the own ticket
+// is then carried, whatever was before. Same and Opposite are not met in a sound table, whose own tickets differ and lie in one half of
+// the circle: either is the ticket to carry, and it would be carried.
 fn heritable(x: Comparison) -> bool
     ensures { result ≡ heritable x }
 {
-    match x {
-        // It is older than the own one: the core carries it.
-        Comparison::Older => true,
-        // The own ticket is the older one, and is carried, whatever was carried before.
-        Comparison::Younger => false,
-        // Not met in a sound table, whose own tickets differ: either is the ticket to carry.
-        Comparison::Same => false,
-        // Not met in a sound table, whose live tickets lie in one half of the circle: it would be carried.
-        Comparison::Opposite => true,
-    }
+    matches!(x, Comparison::Older | Comparison::Opposite)
 }
 
 // The older of a core's own ticket and the one next in line.
@@ -201,8 +174,8 @@ fn heir(own: Ticket, best: Best) -> Ticket
     ensures { result ≡ heir own best }
 {
     match best {
-        None => own,
-        Some((_, m)) => { if heritable(compare(m, own)) { m } else { own } }
+        Some((_, m)) if heritable(compare(m, own)) => m,
+        _ => own,
     }
 }
 
@@ -210,15 +183,13 @@ fn heir(own: Ticket, best: Best) -> Ticket
 fn hold(counter: Ticket, c: Core) -> Effect
     ensures { result ≡ hold counter c }
 {
-    let own = c.own;
-    let carried = c.carried;
-    let first = c.first;
-    let second = c.second;
-    let s = c.state;
     Effect {
-        core: core(own, carried, first, second, served(s)),
+        core: Core {
+            state: served(c.state),
+            ..c
+        },
         counter,
-        ticket: carried,
+        ticket: c.carried,
         does: Move::Stay,
         answer: Answer::Granted,
     }
@@ -228,12 +199,8 @@ fn hold(counter: Ticket, c: Core) -> Effect
 fn inherit(counter: Ticket, c: Core, n: Ticket) -> Effect
     ensures { result ≡ inherit counter c n }
 {
-    let own = c.own;
-    let first = c.first;
-    let second = c.second;
-    let s = c.state;
     Effect {
-        core: core(own, n, first, second, s),
+        core: Core { carried: n, ..c },
         counter,
         ticket: n,
         does: Move::Carry(n),
@@ -245,11 +212,10 @@ fn inherit(counter: Ticket, c: Core, n: Ticket) -> Effect
 fn wait(counter: Ticket, c: Core) -> Effect
     ensures { result ≡ wait counter c }
 {
-    let carried = c.carried;
     Effect {
         core: c,
         counter,
-        ticket: carried,
+        ticket: c.carried,
         does: Move::Stay,
         answer: Answer::NotYet,
     }
@@ -259,15 +225,13 @@ fn wait(counter: Ticket, c: Core) -> Effect
 fn poll(counter: Ticket, c: Core, flag: bool, b: Best) -> Effect
     ensures { result ≡ poll counter c flag b }
 {
-    let s = c.state;
-    let own = c.own;
     if flag {
-        return hold(counter, c);
+        hold(counter, c)
+    } else if two_stage(c.state) {
+        inherit(counter, c, heir(c.own, b))
+    } else {
+        wait(counter, c)
     }
-    if two_stage(s) {
-        return inherit(counter, c, heir(own, b));
-    }
-    wait(counter, c)
 }
 
 // Seam: the effect of a step of the core c in a table of this profile: whether the flag that it waits for is set, and

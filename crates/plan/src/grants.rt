@@ -21,11 +21,9 @@ pub(crate) fn one_grant(u: UnitNo, w: Best) -> Grants
 pub(crate) fn two_grants(u: UnitNo, w: Best, v: UnitNo, x: Best) -> Grants
     ensures { result ≡ packed (won u.0 w ++ won v.0 x) }
 {
-    match w {
-        None => one_grant(v, x),
-        Some((k, _)) => match x {
-            None => Grants::One(Grant::of(u, k)),
-            Some((j, _)) => Grants::Two(Grant::of(u, k), Grant::of(v, j)),
-        },
+    match (w, x) {
+        (None, _) => one_grant(v, x),
+        (_, None) => one_grant(u, w),
+        (Some((k, _)), Some((j, _))) => Grants::Two(Grant::of(u, k), Grant::of(v, j)),
     }
 }

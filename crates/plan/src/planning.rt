@@ -13,7 +13,7 @@ use settling::{Change, carry, enter, leave, stay, stored};
 use ticket::{CoreNo, Ticket, UnitNo};
 
 // What a step reads of a unit at one of its places: the register of its core, and what the unit shows.
-#[derive(Clone, Copy)]
+#[derive(Clone, Copy, Debug, PartialEq, Eq)]
 pub struct Part {
     pub register: Register,
     pub next: Next,
@@ -30,7 +30,7 @@ impl Part {
 
 // What becomes of the units at a step's places, of the core and of the counter; and what the tester must see. Where both
 // places are the same, the second stays as it is. A step that does not move leaves both.
-#[derive(Clone, Copy)]
+#[derive(Clone, Copy, Debug, PartialEq, Eq)]
 pub struct Plan {
     pub first: Change,
     pub second: Change,
@@ -46,9 +46,7 @@ pub struct Plan {
 fn staying(x: Part) -> Change
     ensures { result ≡ staying x }
 {
-    let r = x.register;
-    let v = x.next;
-    stay(r, v)
+    stay(x.register, x.next)
 }
 
 // A refused step hands back what it read.
@@ -71,18 +69,14 @@ fn refuse(a: Answer, counter: Ticket, c: Core, x: Part, y: Part) -> Plan
 fn with_changes(e: Effect, first: Change, second: Change, grants: Grants, moves: bool) -> Plan
     ensures { result ≡ with_changes e first second grants moves }
 {
-    let core = e.core;
-    let counter = e.counter;
-    let ticket = e.ticket;
-    let answer = e.answer;
     Plan {
         first,
         second,
-        core,
-        counter,
-        ticket,
+        core: e.core,
+        counter: e.counter,
+        ticket: e.ticket,
         grants,
-        answer,
+        answer: e.answer,
         moves,
     }
 }
@@ -91,36 +85,28 @@ fn with_changes(e: Effect, first: Change, second: Change, grants: Grants, moves:
 fn entered(e: Effect, k: CoreNo, u: UnitNo, t: Ticket, x: Part, y: Part) -> Plan
     ensures { result ≡ entered e k u t x y }
 {
-    let v = x.next;
-    let a = enter(v, k, t);
-    let w = a.winner;
-    with_changes(e, a, staying(y), one_grant(u, w), true)
+    let a = enter(x.next, k, t);
+    with_changes(e, a, staying(y), one_grant(u, a.winner), true)
 }
 
 // Core k gives up its register at a unit of which x is read.
 fn leaves(x: Part, k: CoreNo) -> Change
     ensures { result ≡ leaves x k }
 {
-    let r = x.register;
-    let v = x.next;
-    leave(r, v, k)
+    leave(x.register, x.next, k)
 }
 
 // Core k, which is c, gives up its registers at its units.
 fn given_up(e: Effect, k: CoreNo, c: Core, x: Part, y: Part) -> Plan
     ensures { result ≡ given_up e k c x y }
 {
-    let z = c.state;
-    let u = c.first;
-    let v = c.second;
     let a = leaves(x, k);
-    let w = a.winner;
-    if two_stage(z) {
+    if two_stage(c.state) {
         let b = leaves(y, k);
-        let o = b.winner;
-        with_changes(e, a, b, two_grants(u, w, v, o), true)
+        let grants = two_grants(c.first, a.winner, c.second, b.winner);
+        with_changes(e, a, b, grants, true)
     } else {
-        with_changes(e, a, staying(y), one_grant(u, w), true)
+        with_changes(e, a, staying(y), one_grant(c.first, a.winner), true)
     }
 }
 
@@ -128,12 +114,10 @@ fn given_up(e: Effect, k: CoreNo, c: Core, x: Part, y: Part) -> Plan
 fn carry_out(e: Effect, k: CoreNo, c: Core, x: Part, y: Part) -> Plan
     ensures { result ≡ carry_out e k c x y }
 {
-    let d = e.does;
-    let v = y.next;
-    match d {
+    match e.does {
         Move::Stay => with_changes(e, staying(x), staying(y), Grants::None, false),
         Move::Enter(u, t) => entered(e, k, u, t, x, y),
-        Move::Carry(t) => with_changes(e, staying(x), carry(v, k, t), Grants::None, true),
+        Move::Carry(t) => with_changes(e, staying(x), carry(y.next, k, t), Grants::None, true),
         Move::GiveUp => given_up(e, k, c, x, y),
     }
 }
@@ -142,10 +126,8 @@ fn carry_out(e: Effect, k: CoreNo, c: Core, x: Part, y: Part) -> Plan
 fn effect_of(s: Step, counts: Counts, counter: Ticket, c: Core, x: Part, y: Part) -> Effect
     ensures { result ≡ effect_of s counts counter c x y }
 {
-    let p = counts.profile;
-    let r = y.register;
-    let line = x.next;
-    step_effect(p, s, counter, c, r.flag, stored(line))
+    let flag = y.register.flag;
+    step_effect(counts.profile, s, counter, c, flag, stored(x.next))
 }
 
 // Seam: the plan of a step that names core c and reads x and y of the units at its places.
@@ -164,9 +146,8 @@ pub fn plan_step(
     match judge(s, counts, late, c) {
         Err(a) => refuse(a, counter, c, x, y),
         Ok(()) => {
-            let k = core_place(s);
             let e = effect_of(s, counts, counter, c, x, y);
-            carry_out(e, k, c, x, y)
+            carry_out(e, core_place(s), c, x, y)
         }
     }
 }
