@@ -92,7 +92,7 @@ pub fn put_ticket(out: &mut [u8], at: usize, n: u16) -> usize
         return put_tabbed(out, at, n);
     }
     out[at] = b'\t';
-    let m = n as u32;
+    let m = u32::from(n);
     let q = m / 10000;
     out[at + 1] = (48 + q) as u8;
     put_four(out, at + 2, m - 10000 * q)
@@ -108,7 +108,7 @@ pub fn put_tabbed(out: &mut [u8], at: usize, n: u16) -> usize
         out[at + 1] = (48 + n) as u8;
         return at + 2;
     }
-    put_long(out, at + 1, n as u32)
+    put_long(out, at + 1, u32::from(n))
 }
 
 // Seam: how many digits a number has.
@@ -125,5 +125,5 @@ pub fn width(n: u32) -> usize
 pub fn tabbed_width(n: u16) -> usize
     ensures { (result ≡ length (tabbed n)) × (result ≤ 6) }
 {
-    width(n as u32) + 1
+    width(u32::from(n)) + 1
 }

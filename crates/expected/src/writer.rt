@@ -24,9 +24,7 @@ const ROOM_FOR_ANY: usize = 88;
 fn grant_width(g: Grant) -> usize
     ensures { (result ≡ length (grant_bytes g)) × (result ≤ 12) }
 {
-    let unit = g.unit;
-    let core = g.core;
-    tabbed_width(unit.0) + tabbed_width(core.0)
+    tabbed_width(g.unit.0) + tabbed_width(g.core.0)
 }
 
 // A grant: its unit and its core.
@@ -34,10 +32,8 @@ fn put_grant(out: &mut [u8], at: usize, g: Grant) -> usize
     requires { at + length (grant_bytes g) ≤ length out.old }
     ensures { Puts out.old out.new at result (grant_bytes g) }
 {
-    let unit = g.unit;
-    let core = g.core;
-    let next = put_tabbed(out, at, unit.0);
-    put_tabbed(out, next, core.0)
+    let next = put_tabbed(out, at, g.unit.0);
+    put_tabbed(out, next, g.core.0)
 }
 
 // How many bytes grants are.

@@ -31,9 +31,11 @@ module _ (o : List ℕ) (at n : ℕ) (room : at + length (tabbed n) ≤ length o
   rest_fits : at + 2 + 4 ≤ length front
   rest_fits = omega (arith, room_six, length-set o at tab, length-set (set o at tab) (at + 1) (48 + n / 10000))
 
-  module _ (m : List ℕ) (q : ℕ) (p : Puts front m (at + 2) q (four (n - 10000 * (n / 10000)))) where
+  module _
+      (k : ℕ) (is : k ≡ n) (m : List ℕ) (q : ℕ)
+      (p : Puts (set (set o at tab) (at + 1) (48 + k / 10000)) m (at + 2) q (four (k - 10000 * (k / 10000)))) where
     whole : Puts o m at q (tabbed n)
-    whole = rw (five_digits n l h) (then (pair o at tab (48 + n / 10000) (at + 2) refl (omega (arith, room_six))) p)
+    whole = rw (five_digits n l h) (then (pair o at tab (48 + n / 10000) (at + 2) refl (omega (arith, room_six))) (rw is at p))
 
 pub bounds-out-at-2 : goal.bounds-out-at-2
 bounds-out-at-2 c = search first_fits

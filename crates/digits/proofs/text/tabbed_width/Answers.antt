@@ -4,4 +4,4 @@ use Rattle.digits.proofs.Lengths.{decimal_five}
 use Rattle.digits.proofs.text.tabbed_width.Goals as goal
 
 pub returns : goal.returns
-returns c = (omega arith, omega (arith, decimal_five c.args.n (omega arith)))
+returns c = grind (arith, decimal_five)
