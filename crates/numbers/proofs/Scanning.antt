@@ -5,12 +5,12 @@ use mathlib.Core.Bool.{Bool, true, false, cond, ◌&&◌}
 use mathlib.Core.List.{List, [], ◌∷◌, ◌++◌, append_assoc, append-nil}
 use mathlib.Core.Logic.{◌⊎◌, inl, inr, ⊎_elim}
 use mathlib.Core.Path.{◌≡◌, refl, sym, ◌∙◌, ap, subst}
-use native.Mathlib.Nat.{pow-suc, not-suc-le-zero}
+use native.Mathlib.Nat.{pow-suc}
 use native.Mathlib.Omega.{arith}
 use lib.Dec.{eqb, ltb}
-use lib.ListN.{length, get_or, length-append}
+use lib.ListN.{length, length-append}
 use borrow.Author.Tests.{ltb-true, ltb-false, lt-ltb, le-ltb, le-leb, ne_eqb, eqb-true, eqb-false}
-use Rattle.numbers.specs.Bytes.{tab, end}
+use Rattle.numbers.specs.Bytes.{tab}
 use Rattle.numbers.specs.Number.{digits, decimal, number_most, follows, scan}
 use Rattle.numbers.specs.Field.{Field}
 use Rattle.numbers.specs.Field.{Bad, Last, Then}
@@ -230,11 +230,6 @@ all_append : (xs ys : List ℕ) → AllDigits xs → AllDigits ys → AllDigits 
 all_append [] ys p q = q
 all_append (x ∷ xs) ys p q = (p.0, p.1, all_append xs ys p.2 q)
 
-all_at : (l : List ℕ) → AllDigits l → (k : ℕ) → k < length l → (48 ≤ get_or l k 0) × (get_or l k 0 ≤ 57)
-all_at [] p k h = absurd (not-suc-le-zero h)
-all_at (b ∷ bs) p zero h = (p.0, p.1)
-all_at (b ∷ bs) p (suc k) h = all_at bs p.2 k (omega arith)
-
 pub digits_all : (f n : ℕ) → AllDigits (digits f n)
 digits_all zero n = rw (digits_none n) tt
 digits_all (suc f) n = go (digits_all f (n / 10)) (few_or_more n)
@@ -243,9 +238,3 @@ digits_all (suc f) n = go (digits_all f (n / 10)) (few_or_more n)
     go before (inl l) = rw (digits_one f n l) (omega arith, omega arith, tt)
     go before (inr l) =
         rw (digits_more f n l) (all_append (digits f (n / 10)) ((48 + n % 10) ∷ []) before (omega arith, omega arith, tt))
-
-pub decimal_bytes : (n k : ℕ) → k < length (decimal n) → (48 ≤ get_or (decimal n) k 0) × (get_or (decimal n) k 0 ≤ 57)
-decimal_bytes n k h = all_at (decimal n) (digits_all 10 n) k h
-
-pub decimal_plain : (n k : ℕ) → k < length (decimal n) → (get_or (decimal n) k 0 ≡ tab → ⊥) × (get_or (decimal n) k 0 ≡ end → ⊥)
-decimal_plain n k h = let w = decimal_bytes n k h in (λ e. omega arith, λ e. omega arith)
