@@ -12,7 +12,8 @@ use ticket::Ticket;
 // The bytes of a line as a header, if they are one.
 pub type ParsedHeader = Option<(Counts, Ticket)>;
 
-// A line that is no header: a malformed one, 20, or one that is not finished, 22.
+// A line that is no header: a malformed one, 20, or one that is not finished, 22. Beside `lines::BadLine`, whose malformed line is 21:
+// a stop is made of either.
 #[derive(Clone, Copy, Debug, PartialEq, Eq)]
 pub enum BadHeader {
     Malformed,

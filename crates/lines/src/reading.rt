@@ -113,7 +113,8 @@ fn parse_step(s: &[u8]) -> Parsed
 // A step line whose numbers have one digit each: its letter, its core and, if it has two numbers, its unit. Or some other line.
 type Short = Option<(u8, CoreNo, Option<UnitNo>)>;
 
-// Whether the line at a place is short. Most lines are: they are read without looking for their end.
+// Whether the line at a place is short. Most lines are: they are read without looking for their end. Tests joined by `|` and `&`, which
+// leave nothing out, make one branch.
 fn short_line(s: &[u8], at: usize) -> Short
     requires { at ≤ length s.now }
     ensures { result ≡ short_line s.now at }

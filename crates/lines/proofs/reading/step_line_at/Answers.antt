@@ -2,7 +2,6 @@
 use Prim.Native.Nat.{ℕ, ◌+◌}
 use mathlib.Core.List.{List}
 use mathlib.Core.Path.{◌≡◌, sym, ◌∙◌, ap}
-use borrow.Author.Rules.{rules}
 use Rattle.ticket.specs.declared.kinds.CoreNo.{CoreNo}
 use Rattle.ticket.specs.declared.kinds.UnitNo.{UnitNo}
 use Rattle.lines.specs.Reading.{one_number, two_numbers_lem, step_line_lem, read_step, step_line_number, step_number}
@@ -32,6 +31,3 @@ returns-in-Some-default-default-None c = numbered c.args.s.now c.args.at _ (sear
 
 pub returns-in-Some-default-default-Some : goal.returns-in-Some-default-default-Some
 returns-in-Some-default-default-Some c = numbered c.args.s.now c.args.at _ (search two)
-
-pub returns-in-None : goal.returns-in-None
-returns-in-None c = numbered c.args.s.now c.args.at _ (search rules)
