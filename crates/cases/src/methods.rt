@@ -21,7 +21,7 @@ pub(crate) fn answer(s: &[u8], a: &mut Answers<'_>) {
     put_table(a, x.table);
 }
 
-// The method of a letter's number.
+// The method of a letter's number: each by its name, and not as `Table::step`, so that each is run.
 fn stepped(t: Table, letter: u8, k: CoreNo, u: UnitNo) -> Stepped {
     match letter {
         0 => t.request(k, u),

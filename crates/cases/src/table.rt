@@ -104,7 +104,7 @@ fn unit(s: &[u8], at: usize) -> LockUnit
     }
 }
 
-// A unit with the registers at a place.
+// A unit with the registers at a place. They are set one by one, since `registered` alone changes a unit's.
 fn registers(s: &[u8], at: usize) -> LockUnit
     requires { at < 16384 }
 {

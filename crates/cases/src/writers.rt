@@ -50,7 +50,7 @@ fn step(s: &[u8], lent: &mut [u8]) -> Written {
 }
 
 // The step of a letter's number.
-pub(crate) fn lettered(letter: u8, k: CoreNo, u: UnitNo) -> Step {
+fn lettered(letter: u8, k: CoreNo, u: UnitNo) -> Step {
     match letter {
         0 => Step::R(k, u),
         1 => Step::N(k, u),

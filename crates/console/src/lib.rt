@@ -39,8 +39,8 @@ pub fn begun() -> Progress {
     Progress::On(stops::beginning(), 0)
 }
 
-// A program's turns on a text: each works a line or more of the piece, if it does not tell at once what stopped it, and
-// then reads, or is the last and tells how the run ended. A text of which every line is worked has at most 1,000,001
+// A program's turns on a text: each works the piece, and then reads on, goes on, or is the last, in which the end is told. `work`
+// answers nothing where it told at once why there is no more to do. A text of which every line is worked has at most 1,000,001
 // lines of so many bytes as the longest, so the turns are never used up.
 pub fn every_turn<W, T>(rt: HostRuntime, text: Text, input: &mut [u8], mut work: W, mut tell: T)
 where
