@@ -1,20 +1,17 @@
 -- Each contract of this crate's entries and of its seams determines its answer: it is an equation with a definition.
 use mathlib.Core.Path.{sym, ◌∙◌}
-use Rattle.ticket.specs.Determined.{Determines}
+use Rattle.ticket.specs.Determined.{Determines, DeterminesLeft}
 use Rattle.block.proofs.table.Table.sound.Reads as sound
 use Rattle.block.proofs.table.Table.step.Reads as step
 use Rattle.block.proofs.table.Table.step_sound.Reads as step_sound
-use Rattle.block.proofs.table.Table.skipped.Reads as skipped
+use Rattle.block.proofs.table.Table.planned.Reads as planned
+use Rattle.block.proofs.table.Table.put_back.Reads as put_back
 use Rattle.block.proofs.table.Table.request.Reads as request
 use Rattle.block.proofs.table.Table.nest.Reads as nest
 use Rattle.block.proofs.table.Table.poll.Reads as poll
 use Rattle.block.proofs.table.Table.interrupt.Reads as interrupt
 use Rattle.block.proofs.table.Table.come_back.Reads as come-back
 use Rattle.block.proofs.table.Table.release.Reads as release
-use Rattle.block.proofs.apart.rows_of.Reads as rows_of_lem
-use Rattle.block.proofs.apart.nexts_of.Reads as nexts-of
-use Rattle.block.proofs.apart.unit_with.Reads as unit-with
-use Rattle.block.proofs.apart.gathered.Reads as gathered
 
 pub sound_determined : Determines sound.Post
 sound_determined κs a x y s t p q = p ∙ sym q
@@ -43,17 +40,9 @@ come_back_determined κs a x y s t p q = p ∙ sym q
 pub release_determined : Determines release.Post
 release_determined κs a x y s t p q = p ∙ sym q
 
-pub rows_of_determined : Determines rows_of_lem.Post
-rows_of_determined κs a x y s t p q = p ∙ sym q
+pub planned_determined : Determines planned.Post
+planned_determined κs a x y s t p q = p ∙ sym q
 
-pub nexts_of_determined : Determines nexts-of.Post
-nexts_of_determined κs a x y s t p q = p ∙ sym q
-
-pub unit_with_determined : Determines unit-with.Post
-unit_with_determined κs a x y s t p q = p ∙ sym q
-
-pub gathered_determined : Determines gathered.Post
-gathered_determined κs a x y s t p q = p ∙ sym q
-
-pub skipped_determined : Determines skipped.Post
-skipped_determined κs a x y s t p q = p ∙ sym q
+-- of the table that was lent
+pub put_back_determined : DeterminesLeft (λ κs s. s.0.now) put_back.Post
+put_back_determined κs a x y s t p q = p ∙ sym q

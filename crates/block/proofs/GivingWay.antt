@@ -1,16 +1,13 @@
 -- A step of a run that works its table's units apart. Whether it gives way is asked by what is read at its places; those away in front are dropped apart from
 -- the table; and the plan of what is read then, put back on the table without them, is the step.
-use Prim.Native.Nat.{ℕ, ◌≤◌, ◌<◌}
+use Prim.Native.Nat.{ℕ, ◌<◌}
 use mathlib.Core.Bool.{Bool, true, false, cond, ◌&&◌}
-use mathlib.Core.List.{List, []}
 use mathlib.Core.Path.{◌≡◌, refl, sym, ◌∙◌, ap, ap₂, subst}
 use lib.Dec.{ltb}
-use lib.ListN.{length, get_or, set}
 use borrow.Author.Tests.{ltb-true}
 use Rattle.ticket.specs.declared.kinds.CoreNo.{CoreNo}
 use Rattle.ticket.specs.declared.kinds.UnitNo.{UnitNo}
 use Rattle.parts.specs.Answer.{whose}
-use Rattle.parts.specs.Parts.{cores, blank, nobody, register_in}
 use Rattle.parts.specs.Profile.{dequeues}
 use Rattle.parts.specs.State.{is_away, two_stage_lem}
 use Rattle.parts.specs.declared.answer.Step.{Step}
@@ -18,22 +15,17 @@ use Rattle.parts.specs.declared.answer.Step.TheVariants.{R, N, P, I, C, L}
 use Rattle.parts.specs.declared.kinds.Core.{Core}
 use Rattle.parts.specs.declared.kinds.LockUnit.{LockUnit}
 use Rattle.parts.specs.declared.kinds.Next.{Next}
-use Rattle.parts.specs.declared.kinds.Register.{Register}
 use Rattle.places.specs.Places.{in_units, core_place, unit_place, other_place}
 use Rattle.refusals.specs.Tickets.{asked}
 use Rattle.settling.specs.Line.{stored}
-use Rattle.settling.specs.Shown.{shows_next_lem}
 use Rattle.settling.specs.Settle.{passed_to_lem}
 use Rattle.settling.specs.Dropping.{away_as, drop_away, showing_next}
-use Rattle.settling.specs.InFront.{InOrder}
 use Rattle.settling.specs.declared.dropping.Dropping.{Dropping}
 use Rattle.settling.specs.Best.{Best, Nobody, Won}
 use Rattle.plan.specs.Plan.{part, plan_step}
 use Rattle.plan.specs.declared.planning.Part.{Part}
 use Rattle.plan.specs.declared.planning.Plan.{Plan}
 use Rattle.block.specs.Table.{core_of, unit_of, register_of, Shaped}
-use Rattle.block.specs.Apart.{unit_with, gathered}
-use Rattle.block.specs.Settle.{with_dropping}
 use Rattle.block.specs.Sound.{sound}
 use Rattle.block.specs.Skipping.{gives_up, first_of, gives_way, skips, dropped, skipped}
 use Rattle.block.specs.Steps.{late, on_sound}
@@ -44,10 +36,9 @@ use Rattle.parts.proofs.Bools.{clash}
 use Rattle.places.proofs.Placing.{core_itself, unit_itself}
 use Rattle.block.proofs.Parts.{parts}
 use Rattle.block.proofs.Suited.{single_in_D}
-use Rattle.block.proofs.DroppedFirst.{Skips, skips_so, skips_unit, busy, core_small, first_small, skip_first, skipped_shaped, skipped_sound, skipped_once}
+use Rattle.block.proofs.DroppedFirst.{Skips, skips_so, busy, core_small, first_small, skip_first, skipped_shaped, skipped_sound, skipped_once}
 use Rattle.block.proofs.DropsKept.{skipped_calm, skipped_same, by_skipping, dropped_unit, step_core, step_register}
 use Rattle.block.proofs.InPlace.{in_place}
-use Rattle.block.proofs.Rows.{unit_at, together_set}
 
 -- L and I are worked at the core's first unit, and ask nothing of the tickets
 first_place : (s : Step) (c : Core) → gives_up s c.state ≡ true → unit_place s c ≡ in_units c.first
@@ -162,7 +153,7 @@ module _ (t : Table) (s : Step) (shaped : Shaped t) (ok : sound t ≡ true) wher
       }
 
   -- a table of which those in front are dropped has there what was made of the unit
-  there : (is : Skips t s) → let n = t.counts.cores in unit_of (skipped t s) i.0 ≡ (showing_next n (drop_away n (unit_of t i.0) t.cores)).unit
+  pub there : (is : Skips t s) → let n = t.counts.cores in unit_of (skipped t s) i.0 ≡ (showing_next n (drop_away n (unit_of t i.0) t.cores)).unit
   there is =
       let n = t.counts.cores in
       let p = places is in
@@ -194,7 +185,7 @@ module _ (t : Table) (s : Step) (shaped : Shaped t) (ok : sound t ≡ true) wher
 
   -- The step's core and its registers at the places are those of the table on which it is worked
 
-  core_kept : core_of (skipped t s) k.0 ≡ c
+  pub core_kept : core_of (skipped t s) k.0 ≡ c
   core_kept =
       by_skipping t s (λ (x : Table). core_of x k.0 ≡ c) (λ e. refl)
       (λ is. subst (λ (x : CoreNo). core_of (dropped t (first_of t s)) x.0 ≡ core_of t x.0) (sym (places is).0) (core_dropped is))
@@ -202,7 +193,7 @@ module _ (t : Table) (s : Step) (shaped : Shaped t) (ok : sound t ≡ true) wher
       core_dropped : Skips t s → core_of (dropped t (first_of t s)) (whose s).0 ≡ core_of t (whose s).0
       core_dropped is = subst (λ (x : Table). core_of x (whose s).0 ≡ core_of t (whose s).0) (ap (λ (b : Bool). cond b (dropped t (first_of t s)) t) is.told) (step_core t s shaped ok)
 
-  register_kept : (u : ℕ) → register_of (skipped t s) u k.0 ≡ register_of t u k.0
+  pub register_kept : (u : ℕ) → register_of (skipped t s) u k.0 ≡ register_of t u k.0
   register_kept u =
       by_skipping t s (λ (x : Table). register_of x u k.0 ≡ register_of t u k.0) (λ e. refl)
       (λ is. subst (λ (x : CoreNo). register_of (dropped t (first_of t s)) u x.0 ≡ register_of t u x.0) (sym (places is).0) (dropped_register is))
@@ -210,7 +201,7 @@ module _ (t : Table) (s : Step) (shaped : Shaped t) (ok : sound t ≡ true) wher
       dropped_register : Skips t s → register_of (dropped t (first_of t s)) u (whose s).0 ≡ register_of t u (whose s).0
       dropped_register is = subst (λ (x : Table). register_of x u (whose s).0 ≡ register_of t u (whose s).0) (ap (λ (b : Bool). cond b (dropped t (first_of t s)) t) is.told) (step_register t s shaped ok u)
 
-  asked_kept : asked s c (late t) ≡ asked s (core_of (skipped t s) k.0) (late (skipped t s))
+  pub asked_kept : asked s c (late t) ≡ asked s (core_of (skipped t s) k.0) (late (skipped t s))
   asked_kept =
       ap (λ (x : Core). asked s x (late t)) (sym core_kept) ∙
       by_skipping t s (λ (x : Table). asked s (core_of (skipped t s) k.0) (late t) ≡ asked s (core_of (skipped t s) k.0) (late x)) (λ e. refl)
@@ -237,124 +228,3 @@ module _ (t : Table) (s : Step) (shaped : Shaped t) (ok : sound t ≡ true) wher
       (ep ∙ rw (same.0, same.1, core_kept))
       er ∙
       sym (skip_first t s shaped ok)
-
--- Those in front dropped where the units stand apart
-pub dropped_apart :
-    (t : Table) (rows : List (List Register)) (nexts : List Next) (s : Step) (shaped : Shaped (gathered t rows nexts)) (ok : sound (gathered t rows nexts) ≡ true)
-    (b : Bool) (d : Dropping) (v z : Next) →
-    Ready (gathered t rows nexts) s shaped ok b d v z →
-    b ≡ true →
-    (let u = (unit_place s (core_of (gathered t rows nexts) (core_place s).0)).0 in
-    gathered (record { units = t.units; cores = d.cores; counts = t.counts; counter = t.counter }) (set rows u d.unit.registers) (set nexts u d.unit.next)) ≡
-    skipped (gathered t rows nexts) s
-dropped_apart t rows nexts s shaped ok b d v z ready does =
-    let w = gathered t rows nexts in
-    let u = (unit_place s (core_of w (core_place s).0)).0 in
-    let is = skips_so w s (sym ready.so ∙ does) in
-    ap (λ (us : List LockUnit). record { units = us; cores = d.cores; counts = t.counts; counter = t.counter }) (together_set rows nexts u d.unit.registers d.unit.next) ∙
-    ap (with_dropping w u) (ready.drops does) ∙
-    ap (dropped w) (places w s shaped ok is).1 ∙
-    sym (ap (λ (b : Bool). cond b (dropped w (first_of w s)) w) is.told)
-
--- The same of units that stand apart
-
-module _
-    (t : Table) (rows : List (List Register)) (nexts : List Next) (even : length rows ≡ length nexts) (s : Step)
-    (shaped : Shaped (gathered t rows nexts)) (ok : sound (gathered t rows nexts) ≡ true)
-    (k : CoreNo) (i : UnitNo)
-    (ek : k ≡ core_place s)
-    (ei : i ≡ unit_place s (core_of (gathered t rows nexts) k.0))
-  where
-    abbrev w : Table
-    w = gathered t rows nexts
-
-    unit_apart : unit_of w i.0 ≡ unit_with (get_or rows i.0 []) (get_or nexts i.0 nobody)
-    unit_apart = unit_at rows nexts i.0 even
-
-    pub way_asked :
-        (b : Best) (x : CoreNo) (g : Bool) →
-        b ≡ stored (get_or nexts i.0 nobody) →
-        x ≡ passed_to_lem b k →
-        g ≡ gives_way s t.counts (core_of w k.0) (get_or (get_or rows i.0 []) k.0 blank) (core_of w x.0) →
-        g ≡ skips w s
-    way_asked b x g eb ex eg =
-        eg ∙
-        ap (λ (y : CoreNo). gives_way s t.counts (core_of w k.0) (get_or (get_or rows i.0 []) k.0 blank) (core_of w y.0)) (ex ∙ ap (λ (z : Best). passed_to_lem z k) eb) ∙
-        ap (λ (y : LockUnit). gives_way s t.counts (core_of w k.0) (register_in y k.0) (core_of w (passed_to_lem (stored y.next) k).0)) (sym unit_apart) ∙
-        rw (ei, ek) (gives_way_lem w s shaped ok)
-
-    -- in T nobody does
-    pub way_calm : (b : Bool) → b ≡ dequeues t.counts.profile → b ≡ false → false ≡ skips w s
-    way_calm b eb e = rw (sym eb ∙ e)
-
-    -- what dropping asks of the unit
-    pub drop_asks :
-        skips w s ≡ true →
-        (x : LockUnit) →
-        x ≡ unit_with (get_or rows i.0 []) (get_or nexts i.0 nobody) →
-        (t.counts.cores ≤ cores) × (shows_next_lem t.counts.cores x ≡ true) × InOrder t.counts.cores x
-    drop_asks e x ex =
-        let is = skips_so w s e in
-        let p = places w s shaped ok is in
-        let q = skips_unit w s ok e (whose s) refl in
-        let at : i.0 ≡ first_of w s = ap (λ (u : UnitNo). u.0) ei ∙ ap (λ (x : CoreNo). (unit_place s (core_of w x.0)).0) ek ∙ p.1 in
-        let unit : x ≡ unit_of w (first_of w s) = ex ∙ sym unit_apart ∙ ap (unit_of w) at in
-        (q.0, ap (shows_next_lem t.counts.cores) unit ∙ q.2, subst (InOrder t.counts.cores) (sym unit) q.3)
-
-    pub ready_dropped :
-        (b : Bool) (x : LockUnit) (d : Dropping) (v z : Next) →
-        b ≡ skips w s →
-        b ≡ true →
-        x ≡ unit_with (get_or rows i.0 []) (get_or nexts i.0 nobody) →
-        d ≡ showing_next t.counts.cores (drop_away t.counts.cores x t.cores) →
-        v ≡ d.unit.next →
-        z ≡ d.unit.next →
-        Ready w s shaped ok b d v z
-    ready_dropped b x d v z so does ex ed ev ez =
-        ready_drops w s shaped ok b d v z so does
-        (ed ∙ ap (λ (y : LockUnit). showing_next t.counts.cores (drop_away t.counts.cores y t.cores)) (ex ∙ sym unit_apart) ∙ rw (ei, ek))
-        ev ez
-
-    pub ready_still :
-        (j : UnitNo) (b : Bool) (d : Dropping) (v z : Next) →
-        j ≡ other_place s (core_of w k.0) →
-        b ≡ skips w s →
-        b ≡ false →
-        v ≡ get_or nexts i.0 nobody →
-        z ≡ get_or nexts j.0 nobody →
-        Ready w s shaped ok b d v z
-    ready_still j b d v z ej so off ev ez =
-        ready_stays w s shaped ok b d v z so off
-        (ev ∙ ap (λ (y : LockUnit). y.next) (sym unit_apart) ∙ rw (ei, ek))
-        (ez ∙ ap (λ (y : LockUnit). y.next) (sym (unit_at rows nexts j.0 even)) ∙ rw (ej, ek))
-
-    -- the plan put back
-    pub in_place_apart :
-        (j : UnitNo) (b : Bool) (d : Dropping) (v z : Next) (x y : Part) (l : Bool) (p : Plan) (r : Stepped) →
-        j ≡ other_place s (core_of w k.0) →
-        Ready w s shaped ok b d v z →
-        x ≡ part (get_or (get_or rows i.0 []) k.0 blank) v →
-        y ≡ part (get_or (get_or rows j.0 []) k.0 blank) z →
-        l ≡ asked s (core_of w k.0) (late w) →
-        p ≡ plan_step s t.counts t.counter l (core_of w k.0) x y →
-        r ≡ put_back (skipped w s) k i j p →
-        r ≡ on_sound w s
-    in_place_apart j b d v z x y l p r ej ready ex ey el ep er =
-        in_place_ready w s shaped ok b d v z x y l p r ready
-        (ex ∙ ap (λ (q : LockUnit). part (register_in q k.0) v) (sym unit_apart) ∙ rw (ei, ek))
-        (ey ∙ ap (λ (q : LockUnit). part (register_in q k.0) z) (sym (unit_at rows nexts j.0 even)) ∙ rw (ej, ek))
-        (el ∙ rw ek)
-        (ep ∙ rw ek)
-        (er ∙ rw (ej, ei, ek))
-
-    -- those in front dropped there
-    pub dropped_here :
-        (b : Bool) (d : Dropping) (v z : Next) →
-        Ready w s shaped ok b d v z →
-        b ≡ true →
-        gathered (record { units = t.units; cores = d.cores; counts = t.counts; counter = t.counter }) (set rows i.0 d.unit.registers) (set nexts i.0 d.unit.next) ≡
-        skipped w s
-    dropped_here b d v z ready does = rw (ei, ek) (dropped_apart t rows nexts s shaped ok b d v z ready does)
-
-    pub kept_here : (b : Bool) (d : Dropping) (v z : Next) → Ready w s shaped ok b d v z → b ≡ false → w ≡ skipped w s
-    kept_here b d v z ready off = sym (skipped_calm w s (sym ready.so ∙ off))

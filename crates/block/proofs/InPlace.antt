@@ -1,7 +1,6 @@
 -- A step by the calls that work it: its places lie in the arrays, and the plan of what is read there, put back, is the step.
-use Prim.Native.Nat.{ℕ, ◌≤◌, ◌<◌}
+use Prim.Native.Nat.{◌≤◌, ◌<◌}
 use mathlib.Core.Bool.{Bool, true, false}
-use mathlib.Core.List.{List}
 use mathlib.Core.Path.{◌≡◌, sym, ◌∙◌, ap, subst}
 use Rattle.ticket.specs.declared.kinds.CoreNo.{CoreNo}
 use Rattle.ticket.specs.declared.kinds.Ticket.{Ticket}
@@ -11,8 +10,7 @@ use Rattle.parts.specs.declared.kinds.Core.{Core}
 use Rattle.parts.specs.declared.kinds.Counts.{Counts}
 use Rattle.parts.specs.declared.answer.Step.{Step}
 use Rattle.places.specs.Places.{core_place, unit_place, other_place}
-use Rattle.refusals.specs.Tickets.{lives_of, owns_of, stretched_by, asked}
-use Rattle.refusals.proofs.Apart.{stretched_apart}
+use Rattle.refusals.specs.Tickets.{asked}
 use Rattle.settling.specs.Line.{Within}
 use Rattle.plan.specs.Plan.{part_of, plan_step}
 use Rattle.plan.specs.declared.planning.Part.{Part}
@@ -50,15 +48,6 @@ pub granted_in :
     Within p.first.winner × Within p.second.winner
 granted_in s n m late c x y p e =
     subst (λ (q : Plan). Within q.first.winner × Within q.second.winner) (sym e) (winners_within s n m late c x y)
-
--- what 15 asks, answered of the cores' tickets apart
-pub late_in :
-    (t : Table) (s : Step) (c : Core) (ls : List Bool) (os : List ℕ) (b : Bool) →
-    ls ≡ lives_of t.cores →
-    os ≡ owns_of t.cores →
-    b ≡ asked s c (stretched_by t.counter ls os t.counts.cores) →
-    b ≡ asked s c (late t)
-late_in t s c ls os b el eo e = e ∙ ap (asked s c) (rw (el, eo) (stretched_apart t.counter t.cores t.counts.cores))
 
 pub in_place :
     (t : Table) (s : Step) (k : CoreNo) (i j : UnitNo) (x y : Part) (b : Bool) (p : Plan) (r : Stepped) →

@@ -23,7 +23,7 @@ pub mod ByParts
 pub mod DropsKept
 pub mod InPlace
 pub mod GivingWay
-pub mod Arrays
+pub mod Planning
 pub mod Rows
 pub mod Held
 pub mod Determined

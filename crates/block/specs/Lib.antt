@@ -7,3 +7,4 @@ pub mod PutBack
 pub mod Skipping
 pub mod Apart
 pub mod Over
+pub mod Planned

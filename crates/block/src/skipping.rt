@@ -1,17 +1,16 @@
 // In D, before a core gives up its flag, those at the front of the unit's line who are away are dropped: the unit would drop
 // them when it settles, and so the step is worked as in T.
-ghost use Rattle.std.specs.Prelude.{true, ◌≡◌, ◌≤◌, ◌<◌};
-ghost use Rattle.parts.specs.Parts.{cores, units};
-ghost use Rattle.settling.specs.Shown.{shows_next_lem};
-ghost use Rattle.settling.specs.InFront.{InOrder};
-ghost use Rattle.block.specs.Table.{unit_of};
+ghost use Rattle.std.specs.Prelude.{true, ◌≡◌, ◌<◌};
+ghost use Rattle.parts.specs.Parts.{units};
+ghost use Rattle.block.specs.Table.{Shaped};
 ghost use Rattle.block.specs.Sound.{sound};
-ghost use Rattle.block.specs.Skipping.{gives_up, gives_way, skips, dropped, skipped};
+ghost use Rattle.block.specs.Skipping.{gives_up, gives_way, skips};
+ghost use Rattle.block.specs.Planned.{dropping, without};
 
 use crate::table::Table;
 use parts::{Core, Counts, Register, State, Step, dequeues, holds, is_away, waits, whose};
 use places::{core_place, unit_place};
-use settling::{drop_away, passed_to, stored};
+use settling::{Dropping, drop_away, passed_to, stored};
 use ticket::UnitNo;
 
 // Whether a core in this state that the step allows gives up all that it has.
@@ -25,8 +24,8 @@ fn gives_up(s: Step, z: State) -> bool
     }
 }
 
-// Seam: whether the step of core c gives up a flag, in D, while f is away, who is in front of the line there. The core's register there is r.
-pub fn gives_way(s: Step, counts: Counts, c: Core, r: Register, f: Core) -> bool
+// Whether the step of core c gives up a flag, in D, while f is away, who is in front of the line there. The core's register there is r.
+fn gives_way(s: Step, counts: Counts, c: Core, r: Register, f: Core) -> bool
     ensures { result ≡ gives_way s counts c r f }
 {
     let p = counts.profile;
@@ -38,54 +37,48 @@ pub fn gives_way(s: Step, counts: Counts, c: Core, r: Register, f: Core) -> bool
 
 impl Table {
     // Whether the step gives up a flag, in D, and whoever is in front of the line there is away.
-    fn skips(self, s: Step) -> bool
-        requires { sound self ≡ true }
-        ensures { result ≡ skips self s }
+    fn skips(&self, s: Step) -> bool
+        requires { (sound self.now ≡ true) × Shaped self.now }
+        ensures { result ≡ skips self.now s }
     {
-        let counts = self.counts;
         let k = core_place(s);
         let at = k.0 as usize;
         let c = self.cores[at];
         let i = unit_place(s, c).0 as usize;
-        let x = self.units[i];
-        let r = x.registers[at];
-        let v = x.next;
-        let w = passed_to(stored(v), k).0 as usize;
-        let f = self.cores[w];
-        gives_way(s, counts, c, r, f)
+        let w = passed_to(stored(self.units[i].next), k).0 as usize;
+        gives_way(
+            s,
+            self.counts,
+            c,
+            self.units[i].registers[at],
+            self.cores[w],
+        )
     }
 
-    // Those at the front of the line of unit u who are away are dropped.
-    fn dropped(mut self, u: UnitNo) -> Self
-        requires { (self.counts.cores ≤ cores) × (u.0 < units) × (shows_next_lem self.counts.cores (unit_of self u.0) ≡ true) × InOrder self.counts.cores (unit_of self u.0) }
-        ensures { result ≡ dropped self u.0 }
-    {
-        let counts = self.counts;
-        let n = counts.cores;
-        let i = u.0 as usize;
-        let x = self.units[i];
-        let all = self.cores;
-        let d = drop_away(n, x, all);
-        let y = d.unit;
-        let after = d.cores;
-        self.units[i] = y;
-        self.cores = after;
-        self
-    }
-
-    // Seam: the table on which a step is worked.
-    pub fn skipped(self, s: Step) -> Self
-        requires { sound self ≡ true }
-        ensures { result ≡ skipped self s }
+    // Those in front dropped, if any are: the unit at the step's place and the cores after it.
+    pub(crate) fn dropping(&self, s: Step) -> Option<Dropping>
+        requires { (sound self.now ≡ true) × Shaped self.now }
+        ensures { result ≡ dropping self.now s }
     {
         if self.skips(s) {
-            let k = whose(s);
-            let at = k.0 as usize;
-            let c = self.cores[at];
-            let u = c.first;
-            self.dropped(u)
+            let k = whose(s).0 as usize;
+            let u = self.cores[k].first.0 as usize;
+            Some(drop_away(self.counts.cores, self.units[u], self.cores))
         } else {
-            self
+            None
+        }
+    }
+
+    // The table with them dropped at unit u.
+    pub(crate) fn drop_front(&mut self, u: UnitNo, dropping: &Option<Dropping>)
+        requires { u.0 < units }
+        ensures { self.new ≡ without self.old u dropping.now }
+    {
+        if let Some(d) = dropping {
+            let unit = d.unit;
+            let all = d.cores;
+            self.units[u.0 as usize] = unit;
+            self.cores = all;
         }
     }
 }

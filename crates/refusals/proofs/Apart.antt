@@ -1,13 +1,13 @@
--- The cores' tickets apart: they are the cores' one by one, also after a core has changed; and of them 15 asks what it asks of the cores.
+-- The cores' tickets apart: they are the cores' one by one, and of them 15 asks what it asks of the cores.
 use Prim.Native.Nat.{ℕ, zero, suc}
 use mathlib.Core.Bool.{Bool, true, false, ◌&&◌}
-use mathlib.Core.List.{List, [], ◌∷◌, map}
-use mathlib.Core.Path.{◌≡◌, refl, sym, ◌∙◌, ap, ap₂}
-use lib.ListN.{length, get_or, set, length-map, get_or-map}
+use mathlib.Core.List.{List}
+use mathlib.Core.Path.{◌≡◌, refl, sym, ap₂}
+use lib.ListN.{get_or, get_or-map}
 use Rattle.ticket.specs.Order.{compare}
 use Rattle.ticket.specs.declared.kinds.Ticket.{Ticket}
 use Rattle.parts.specs.Fold.{some, up_to}
-use Rattle.parts.specs.Parts.{cores, idle}
+use Rattle.parts.specs.Parts.{idle}
 use Rattle.parts.specs.State.{is_dropped}
 use Rattle.parts.specs.declared.kinds.Core.{Core}
 use Rattle.parts.specs.declared.kinds.Counts.{Counts}
@@ -21,24 +21,6 @@ live_at cs k = sym (get_or-map live cs k idle)
 
 own_at : (cs : List Core) (k : ℕ) → own_in (get_or cs k idle) ≡ get_or (owns_of cs) k 0
 own_at cs k = sym (get_or-map own_in cs k idle)
-
-pub lives_long : (cs : List Core) → length cs ≡ cores → length (lives_of cs) ≡ cores
-lives_long cs e = length-map cs live ∙ e
-
-pub owns_long : (cs : List Core) → length cs ≡ cores → length (owns_of cs) ≡ cores
-owns_long cs e = length-map cs own_in ∙ e
-
--- after a core has changed
-map_set : {A B : Type 0} (f : A → B) (xs : List A) (k : ℕ) (a : A) → map f (set xs k a) ≡ set (map f xs) k (f a)
-map_set f [] k a = refl
-map_set f (x ∷ xs) zero a = refl
-map_set f (x ∷ xs) (suc k) a = ap (λ l. f x ∷ l) (map_set f xs k a)
-
-pub lives_set : (cs : List Core) (k : ℕ) (c : Core) → lives_of (set cs k c) ≡ set (lives_of cs) k (live c)
-lives_set = map_set live
-
-pub owns_set : (cs : List Core) (k : ℕ) (c : Core) → owns_of (set cs k c) ≡ set (owns_of cs) k (own_in c)
-owns_set = map_set own_in
 
 -- 15
 old_apart : (m : Ticket) (cs : List Core) (k : ℕ) → old_at m (lives_of cs) (owns_of cs) k ≡ old m (get_or cs k idle)

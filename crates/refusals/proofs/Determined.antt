@@ -2,22 +2,10 @@
 use mathlib.Core.Path.{sym, ◌∙◌}
 use Rattle.ticket.specs.Determined.{Determines}
 use Rattle.refusals.proofs.verdict.judge.Reads as judge
-use Rattle.refusals.proofs.tickets.is_live.Reads as is_live
-use Rattle.refusals.proofs.tickets.lives_of.Reads as lives-of
-use Rattle.refusals.proofs.tickets.owns_of.Reads as owns_of
 use Rattle.refusals.proofs.tickets.late_for.Reads as late-for
 
 pub judge_determined : Determines judge.Post
 judge_determined κs a x y s t p q = p ∙ sym q
-
-pub is_live_determined : Determines is_live.Post
-is_live_determined κs a x y s t p q = p ∙ sym q
-
-pub lives_of_determined : Determines lives-of.Post
-lives_of_determined κs a x y s t p q = p ∙ sym q
-
-pub owns_of_determined : Determines owns_of.Post
-owns_of_determined κs a x y s t p q = p ∙ sym q
 
 pub late_for_determined : Determines late-for.Post
 late_for_determined κs a x y s t p q = p ∙ sym q

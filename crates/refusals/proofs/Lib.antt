@@ -1,4 +1,3 @@
 pub mod Refusals
 pub mod Apart
-pub mod Mapped
 pub mod Determined

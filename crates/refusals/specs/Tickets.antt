@@ -9,6 +9,7 @@ use Rattle.parts.specs.declared.answer.Step.{Step}
 use Rattle.parts.specs.declared.answer.Step.TheVariants.{R, N, P, I, C, L}
 use Rattle.refusals.specs.Judge.{far, live}
 
+-- the own ticket
 abbrev pub own_in : Core → ℕ
 own_in c = c.own.0
 

@@ -6,12 +6,14 @@
 // back; `drop_away`, for a unit that is to settle while some in line are away.
 #![tactic(auto)]
 
+mod changing;
 mod dropping;
 mod line;
 mod next;
 mod pairs;
 mod settle;
 
+pub use changing::change;
 pub use dropping::{Dropping, drop_away};
 pub use line::{Best, next_of, stored};
 pub use next::{next_shown, shown, shows_next};

@@ -1,7 +1,7 @@
--- `any` is whether one of the first k tickets is live and old.
-use Rattle.std.proofs.Common.{◌≡◌, ◌≤◌, length}
-use Rattle.refusals.specs.Tickets.{stretched_by}
+-- After k turns, any says whether one of the first k cores is stretched.
+use mathlib.Core.Path.{◌≡◌}
+use Rattle.refusals.specs.Judge.{stretched}
 use Rattle.refusals.proofs.tickets.stretched.Given as goal
 
 abbrev pub invariant-loop-k : goal.invariant-loop-k
-invariant-loop-k l = (l.n ≤ length l.lives) × (l.n ≤ length l.owns) × (l.any ≡ stretched_by l.counter l.lives l.owns l.k)
+invariant-loop-k l = l.any ≡ stretched l.counter l.all l.k
