@@ -26,9 +26,6 @@ use Rattle.digits.specs.Room.{fits, wrote, left}
 use Rattle.digits.proofs.Pasting.{written as put-so}
 use Rattle.expected.specs.Expected.{expected_bytes}
 use Rattle.writing.specs.Writing.{output_header, wrote_header, left_header}
-use Rattle.std.specs.Prelude.{Err}
-use Rattle.headers.specs.declared.reading.BadHeader.{BadHeader as Bad}
-use Rattle.headers.specs.declared.reading.BadHeader.TheVariants.{Malformed as IsBad, Unfinished as IsCut}
 use Rattle.headers.specs.HeaderLine.{HeaderLine}
 use Rattle.headers.specs.HeaderLine.{Header, BadHeader as NoHeader, Unfinished as CutHeader}
 use Rattle.lines.specs.StepLine.{StepLine}
@@ -36,7 +33,10 @@ use Rattle.lines.specs.StepLine.{Line, Finished as Nothing, Malformed as NoStep,
 use Rattle.digits.specs.Written.{Written}
 use Rattle.digits.specs.Written.{Next, OutOfRange, NoRoom as Full}
 use Rattle.stops.specs.Run.{steps_most}
+use Rattle.headers.specs.declared.reading.BadHeader as bad_header
+use Rattle.headers.specs.declared.reading.BadHeader.TheVariants as bad_header_is
 use Rattle.stops.specs.Due.{due, line_due, header_stop}
+use Rattle.std.specs.Prelude.{Err}
 use Rattle.walks.specs.Walk.{Ended}
 use Rattle.calls.specs.Call.{Known, desk_of, call, stopped, output}
 use Rattle.calls.specs.Placed.{run_at, stopped_at, answered, worked, opening, placed}
@@ -239,9 +239,16 @@ module _ (r : Run) (s out : List ℕ) (unread : r.headed ≡ false) (h : HeaderL
       let z = stop r out s why e in (sym (ap stopped z), sym (ap output z))
 
   -- 20 and 22
-  pub no_header : (b : Bad) (why : Stop) → h ≡ Err b → why ≡ header_stop b → (record { run = r; why = why } ≡ stopped (call r s out)) × (out ≡ output (call r s out))
-  no_header IsBad why is so = rw so (ended BadHeader (opens NoHeader is))
-  no_header IsCut why is so = rw so (ended Unfinished (opens CutHeader is))
+  no_header : h ≡ NoHeader → (record { run = r; why = BadHeader } ≡ stopped (call r s out)) × (out ≡ output (call r s out))
+  no_header is = ended BadHeader (opens NoHeader is)
+
+  cut_header : h ≡ CutHeader → (record { run = r; why = Unfinished } ≡ stopped (call r s out)) × (out ≡ output (call r s out))
+  cut_header is = ended Unfinished (opens CutHeader is)
+
+  -- by what stands there
+  pub unheaded : (b : bad_header.BadHeader) → h ≡ Err b → (record { run = r; why = header_stop b } ≡ stopped (call r s out)) × (out ≡ output (call r s out))
+  unheaded bad_header_is.Malformed is = no_header is
+  unheaded bad_header_is.Unfinished is = cut_header is
 
   module _ (c : Counts) (n : Ticket) (next : ℕ) (is : h ≡ Header c n next) (w : Written) (o : List ℕ) where
     abbrev first : List ℕ

@@ -4,7 +4,7 @@ use mathlib.Core.Path.{refl, sym, ◌∙◌, ap}
 use Rattle.block.specs.Sound.{sound}
 use Rattle.stops.specs.declared.run.Run.{Run}
 use Rattle.laws.proofs.Keeping.{built_sound}
-use Rattle.translate.proofs.Turning.{no_header, opened_by, out_of_range, no_room_opening}
+use Rattle.translate.proofs.Turning.{unheaded, opened_by, out_of_range, no_room_opening}
 use Rattle.translate.proofs.call.from_header.Goals as goal
 
 pub step_lines-requires : goal.step_lines-requires
@@ -16,20 +16,24 @@ pub returns-in-Ok-write_opening : goal.returns-in-Ok-write_opening
 returns-in-Ok-write_opening c =
     let a = c.args in
     let h = c.in-Ok in
+    let w = c.in-Ok-write_opening in
     opened_by a.run a.script.now a.out.now c.requires _ h.ensures.0 h.counts h.counter h.next refl _ _
-    (c.in-Ok-write_opening.ensures.0, c.in-Ok-write_opening.ensures.1) c.in-Ok-write_opening.w c.fresh_run-opened.result _ _ refl c.fresh_run-opened.ensures c.step_lines.ensures
+    (w.ensures.0, w.ensures.1) w.w c.fresh_run-opened.result _ _ refl c.fresh_run-opened.ensures c.step_lines.ensures
 
 pub returns-in-Err-OutOfRange : goal.returns-in-Err-OutOfRange
 returns-in-Err-OutOfRange c =
     let a = c.args in
     let h = c.in-Ok in
-    absurd (out_of_range a.run a.script.now a.out.now c.requires _ h.ensures.0 h.counts h.counter h.next refl _ _ (c.in-Err-OutOfRange.ensures.0, c.in-Err-OutOfRange.ensures.1) (ap Err c.in-Err-OutOfRange.field-0-is))
+    let w = c.in-Err-OutOfRange in
+    absurd (out_of_range a.run a.script.now a.out.now c.requires _ h.ensures.0 h.counts h.counter h.next refl _ _ (w.ensures.0, w.ensures.1) (ap Err w.field-0-is))
 
 pub returns-in-Err-NoRoom : goal.returns-in-Err-NoRoom
 returns-in-Err-NoRoom c =
     let a = c.args in
     let h = c.in-Ok in
-    no_room_opening a.run a.script.now a.out.now c.requires _ h.ensures.0 h.counts h.counter h.next refl _ _ (c.in-Err-NoRoom.ensures.0, c.in-Err-NoRoom.ensures.1) (ap Err c.in-Err-NoRoom.field-0-is)
+    let w = c.in-Err-NoRoom in
+    no_room_opening a.run a.script.now a.out.now c.requires _ h.ensures.0 h.counts h.counter h.next refl _ _ (w.ensures.0, w.ensures.1) (ap Err w.field-0-is)
 
+-- 20 and 22
 pub returns-in-Err : goal.returns-in-Err
-returns-in-Err c = no_header c.args.run c.args.script.now c.args.out.now c.requires _ c.read_header.ensures.0 c.in-Err.e _ c.in-Err.is c.from.ensures
+returns-in-Err c = rw c.from.ensures (unheaded c.args.run c.args.script.now c.args.out.now c.requires _ c.in-Err.ensures.0 c.in-Err.bad refl)
