@@ -24,8 +24,7 @@ fn core_sound(counts: Counts, counter: Ticket, all: [Core; CORES], k: CoreNo) ->
     requires { k.0 < cores }
     ensures { result ≡ core_sound counts counter all k.0 }
 {
-    let i = k.0 as usize;
-    let c = all[i];
+    let c = all[k.0 as usize];
     within(counts, k, c)
         & suited(counts, c)
         & idle_blank(c)
@@ -40,44 +39,35 @@ fn core_sound(counts: Counts, counter: Ticket, all: [Core; CORES], k: CoreNo) ->
 fn within(counts: Counts, k: CoreNo, c: Core) -> bool
     ensures { result ≡ within counts k.0 c }
 {
-    let s = c.state;
-    (k.0 < counts.cores) | is_idle(s)
+    (k.0 < counts.cores) | is_idle(c.state)
 }
 
 // The table's profile has the core's state.
 fn suited(counts: Counts, c: Core) -> bool
     ensures { result ≡ suited counts c }
 {
-    let p = counts.profile;
-    let s = c.state;
-    suits(p, s)
+    suits(counts.profile, c.state)
 }
 
 // An idle core has ticket 0, and names no unit.
 fn idle_blank(c: Core) -> bool
     ensures { result ≡ idle_blank c }
 {
-    let s = c.state;
-    let own = c.own;
-    let first = c.first;
-    !is_idle(s) | ((own.0 == 0) & (first.0 == 0))
+    !is_idle(c.state) | ((c.own.0 == 0) & (c.first.0 == 0))
 }
 
 // A dropped core has ticket 0; it still names its unit.
 fn dropped_blank(c: Core) -> bool
     ensures { result ≡ dropped_blank c }
 {
-    let s = c.state;
-    let own = c.own;
-    !is_dropped(s) | (own.0 == 0)
+    !is_dropped(c.state) | (c.own.0 == 0)
 }
 
 // The units that a core names are in the table, and of the right classes.
 fn named(counts: Counts, c: Core) -> bool
     ensures { result ≡ named counts c }
 {
-    let s = c.state;
-    is_idle(s) | names(counts, c, two_stage(s))
+    is_idle(c.state) | names(counts, c, two_stage(c.state))
 }
 
 // The same of a core with a ticket, and with two units or one.
@@ -107,9 +97,7 @@ fn half_behind(x: Comparison) -> bool
 fn recent(counter: Ticket, c: Core) -> bool
     ensures { result ≡ recent counter c }
 {
-    let s = c.state;
-    let own = c.own;
-    !is_live(s) | half_behind(compare(own, counter))
+    !is_live(c.state) | half_behind(compare(c.own, counter))
 }
 
 // No other core has the ticket of core k, which is c.
@@ -128,12 +116,7 @@ fn apart(all: [Core; CORES], k: CoreNo, c: Core) -> bool
 fn differ(k: CoreNo, c: Core, j: CoreNo, d: Core) -> bool
     ensures { result ≡ differ k.0 c j.0 d }
 {
-    let s = c.state;
-    let z = d.state;
-    let a = c.own;
-    let b = d.own;
-    let far = behind(a, b);
-    (k == j) | !is_live(s) | !is_live(z) | !(far == 0)
+    (k == j) | !is_live(c.state) | !is_live(d.state) | (behind(c.own, d.own) != 0)
 }
 
 // Whether a carried ticket that compares so with the own one reads older.
@@ -149,15 +132,11 @@ fn reads_older(x: Comparison) -> bool
 fn carries(all: [Core; CORES], c: Core) -> bool
     ensures { result ≡ carries all c }
 {
-    let s = c.state;
-    let own = c.own;
-    let carried = c.carried;
-    let second = c.second;
-    let same = carried == own;
-    if two_stage(s) {
-        same | (lent(all, c) & reads_older(compare(carried, own)))
+    let same = c.carried == c.own;
+    if two_stage(c.state) {
+        same | (lent(all, c) & reads_older(compare(c.carried, c.own)))
     } else {
-        same & (second.0 == 0)
+        same & (c.second.0 == 0)
     }
 }
 
@@ -176,10 +155,5 @@ fn lent(all: [Core; CORES], c: Core) -> bool
 fn lends(c: Core, d: Core) -> bool
     ensures { result ≡ lends c d }
 {
-    let s = d.state;
-    let own = d.own;
-    let carried = c.carried;
-    let a = d.first;
-    let b = c.first;
-    unserved(s) & (a == b) & (own == carried)
+    unserved(d.state) & (d.first == c.first) & (d.own == c.carried)
 }

@@ -35,14 +35,10 @@ fn agrees(c: Core, u: UnitNo, r: Register) -> bool
     ensures { result ≡ agrees c u.0 r }
 {
     let s = c.state;
-    let own = c.own;
-    let carried = c.carried;
-    let first = c.first;
-    let second = c.second;
-    if stands(s) & (u == first) {
-        flagless(s, r) & shows(r, own, holds_first(s))
-    } else if two_stage(s) & (u == second) {
-        shows(r, carried, holds_both(s))
+    if stands(s) & (u == c.first) {
+        flagless(s, r) & shows(r, c.own, holds_first(s))
+    } else if two_stage(s) & (u == c.second) {
+        shows(r, c.carried, holds_both(s))
     } else {
         is_blank(r)
     }
@@ -59,16 +55,14 @@ fn flagless(s: State, r: Register) -> bool
 fn shows(r: Register, n: Ticket, held: bool) -> bool
     ensures { result ≡ shows r n held }
 {
-    let t = r.ticket;
-    r.valid & (t == n) & (r.flag | !held)
+    r.valid & (r.ticket == n) & (r.flag | !held)
 }
 
 // A register that nobody stands in: ticket 0, invalid, no flag.
 fn is_blank(r: Register) -> bool
     ensures { result ≡ is_blank r }
 {
-    let t = r.ticket;
-    (t.0 == 0) & !r.valid & !r.flag
+    (r.ticket.0 == 0) & !r.valid & !r.flag
 }
 
 // A unit has one flag if any register is valid and none otherwise.
