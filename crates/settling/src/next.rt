@@ -23,12 +23,7 @@ fn free(n: u16, x: LockUnit) -> bool
     requires { n ≤ cores }
     ensures { result ≡ eqb (flags n x) 0 }
 {
-    for r in &x.registers[..usize::from(n)] {
-        if r.flag {
-            return false;
-        }
-    }
-    true
+    !x.registers[..usize::from(n)].iter().any(|r| r.flag)
 }
 
 // Seam: what the first n registers of a unit ask for.
