@@ -1,6 +1,6 @@
 -- The turn of the translation is steady. A line that is answered was read as a step or as a header, which ends past its start and within the
 -- bytes that are left, and stands there as well when more bytes follow.
-use Prim.Native.Nat.{ℕ, ◌+◌, ◌≤◌, ◌<◌}
+use Prim.Native.Nat.{ℕ, ◌≤◌, ◌<◌}
 use mathlib.Core.Bool.{Bool, true, false, cond}
 use mathlib.Core.List.{List, ◌++◌}
 use mathlib.Core.Logic.{◌⊎◌, inl, inr, ⊎_elim, ◌≢◌}
@@ -15,10 +15,8 @@ use Rattle.parts.specs.declared.answer.Step.{Step}
 use Rattle.parts.specs.declared.kinds.Counts.{Counts}
 use Rattle.lines.specs.Reading.{read_step}
 use Rattle.headers.specs.Header.{read_header}
-use Rattle.lines.specs.StepLine.{StepLine}
-use Rattle.lines.specs.StepLine.{Line, Finished as Nothing, Malformed as NoStep, Unfinished as Cut}
-use Rattle.headers.specs.HeaderLine.{HeaderLine}
-use Rattle.headers.specs.HeaderLine.{Header, BadHeader as NoHeader, Unfinished as CutHeader}
+use Rattle.lines.specs.StepLine.{StepLine, Line, Finished as Nothing, Malformed as NoStep, Unfinished as Cut}
+use Rattle.headers.specs.HeaderLine.{HeaderLine, Header, BadHeader as NoHeader, Unfinished as CutHeader}
 use Rattle.stops.specs.Run.{steps_most, stop_number}
 use Rattle.stops.specs.Due.{line_due, due}
 use Rattle.stops.specs.Todo.{Stop as Halt}

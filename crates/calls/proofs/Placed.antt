@@ -1,10 +1,10 @@
 -- The walk's turn, asked about the bytes that are left, is the next line by its place in the script: a line is read the same there, its
 -- end moved on by the place. So a call is its next line, as the code reads it, and then the call from there.
-use Prim.Native.Nat.{ℕ, ◌+◌, ◌≤◌, ◌<◌}
+use Prim.Native.Nat.{ℕ, ◌+◌, ◌≤◌}
 use mathlib.Core.Bool.{Bool, true, false, cond, ◌&&◌}
 use mathlib.Core.List.{List, [], ◌++◌}
 use mathlib.Core.Logic.{◌⊎◌, inl, inr, ⊎_elim}
-use mathlib.Core.Path.{◌≡◌, refl, sym, ◌∙◌, ap, subst}
+use mathlib.Core.Path.{◌≡◌, refl, sym, ◌∙◌, ap}
 use native.Mathlib.Nat.{add-zero}
 use native.Mathlib.Omega.{arith}
 use lib.Dec.{leb}
@@ -14,10 +14,8 @@ use borrow.Author.Tests.{leb-true, leb-false, le-leb, lt-leb}
 use Rattle.block.specs.Sound.{sound}
 use Rattle.lines.specs.Reading.{read_step}
 use Rattle.headers.specs.Header.{read_header}
-use Rattle.lines.specs.StepLine.{StepLine}
-use Rattle.lines.specs.StepLine.{Line, Finished as Nothing, Malformed as NoStep, Unfinished as Cut}
-use Rattle.headers.specs.HeaderLine.{HeaderLine}
-use Rattle.headers.specs.HeaderLine.{Header, BadHeader as NoHeader, Unfinished as CutHeader}
+use Rattle.lines.specs.StepLine.{StepLine, Line, Finished as Nothing, Malformed as NoStep, Unfinished as Cut}
+use Rattle.headers.specs.HeaderLine.{HeaderLine, Header, BadHeader as NoHeader, Unfinished as CutHeader}
 use Rattle.digits.specs.Room.{fits}
 use Rattle.stops.specs.Run.{steps_most}
 use Rattle.stops.specs.Due.{line_due}

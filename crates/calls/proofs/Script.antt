@@ -17,16 +17,11 @@ use Rattle.numbers.specs.Bytes.{end}
 use Rattle.lines.specs.Bytes.{line_most}
 use Rattle.lines.specs.Reading.{ending, line_end_lem, parse_step_lem, step_line_lem, read_step}
 use Rattle.headers.specs.Header.{parse_header_lem, header_line, read_header}
-use Rattle.lines.specs.Ending.{Ending}
-use Rattle.lines.specs.Ending.{At, Long, Short}
-use Rattle.lines.specs.Parsed.{Parsed}
-use Rattle.lines.specs.Parsed.{Good, Not}
-use Rattle.headers.specs.ParsedHeader.{ParsedHeader}
-use Rattle.headers.specs.ParsedHeader.{Good as GoodHeader, Not as NotHeader}
-use Rattle.lines.specs.StepLine.{StepLine}
-use Rattle.lines.specs.StepLine.{Line, Finished as Nothing, Malformed as NoStep, Unfinished as Cut}
-use Rattle.headers.specs.HeaderLine.{HeaderLine}
-use Rattle.headers.specs.HeaderLine.{Header, BadHeader as NoHeader, Unfinished as CutHeader}
+use Rattle.lines.specs.Ending.{Ending, At, Long, Short}
+use Rattle.lines.specs.Parsed.{Parsed, Good, Not}
+use Rattle.headers.specs.ParsedHeader.{ParsedHeader, Good as GoodHeader, Not as NotHeader}
+use Rattle.lines.specs.StepLine.{StepLine, Line, Finished as Nothing, Malformed as NoStep, Unfinished as Cut}
+use Rattle.headers.specs.HeaderLine.{HeaderLine, Header, BadHeader as NoHeader, Unfinished as CutHeader}
 use Rattle.lines.proofs.Turns.{step_to, found_within}
 use Rattle.headers.proofs.Numbers.{header_to}
 

@@ -11,10 +11,8 @@ use Rattle.digits.specs.Text.{pasted}
 use Rattle.digits.specs.Room.{fits}
 use Rattle.expected.specs.Expected.{expected_bytes}
 use Rattle.writing.specs.Writing.{output_header}
-use Rattle.headers.specs.HeaderLine.{HeaderLine}
-use Rattle.headers.specs.HeaderLine.{Header, BadHeader as NoHeader, Unfinished as CutHeader}
-use Rattle.stops.specs.Todo.{Todo}
-use Rattle.stops.specs.Todo.{Work, Stop as Halt}
+use Rattle.headers.specs.HeaderLine.{HeaderLine, Header, BadHeader as NoHeader, Unfinished as CutHeader}
+use Rattle.stops.specs.Todo.{Todo, Work, Stop as Halt}
 use Rattle.stops.specs.declared.run.Run.{Run}
 use Rattle.stops.specs.declared.run.Stop.{Stop}
 use Rattle.stops.specs.declared.run.Stop.TheVariants.{BadHeader, Unfinished, NoRoom}

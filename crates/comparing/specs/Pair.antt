@@ -4,8 +4,7 @@ use Rattle.ticket.specs.Order.{compare}
 use Rattle.numbers.specs.Bytes.{end}
 use Rattle.numbers.specs.Number.{field}
 use Rattle.numbers.specs.Field.{Bad, Last, Then}
-use Rattle.comparing.specs.Told.{Told}
-use Rattle.comparing.specs.Told.{Malformed, Says}
+use Rattle.comparing.specs.Told.{Told, Malformed, Says}
 
 -- the field of the line l that starts at i and ends it, against a
 abbrev pub second_field : List ℕ → ℕ → ℕ → Told

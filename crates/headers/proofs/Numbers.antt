@@ -7,13 +7,10 @@ use lib.Dec.{leb}
 use lib.ListN.{length, take, drop}
 use Rattle.parts.specs.Range.{in_range}
 use Rattle.lines.specs.Reading.{line_end_lem}
-use Rattle.lines.specs.Ending.{Ending}
-use Rattle.lines.specs.Ending.{At, Long, Short}
+use Rattle.lines.specs.Ending.{Ending, At, Long, Short}
 use Rattle.headers.specs.Header.{parse_header_lem, header_line, read_header, header_line_number, header_number}
-use Rattle.headers.specs.ParsedHeader.{ParsedHeader}
-use Rattle.headers.specs.ParsedHeader.{Good as GoodHeader, Not as NoHeader}
-use Rattle.headers.specs.HeaderLine.{HeaderLine}
-use Rattle.headers.specs.HeaderLine.{Header, BadHeader, Unfinished as Unended}
+use Rattle.headers.specs.ParsedHeader.{ParsedHeader, Good as GoodHeader, Not as NoHeader}
+use Rattle.headers.specs.HeaderLine.{HeaderLine, Header, BadHeader, Unfinished as Unended}
 
 -- the header at a place that is not past the end, and its number, by where the line ends
 abbrev pub header_to : List ℕ → ℕ → Ending → HeaderLine

@@ -8,14 +8,11 @@ use Rattle.parts.specs.declared.kinds.Profile.{Profile}
 use Rattle.parts.specs.declared.kinds.Profile.TheVariants.{T, D}
 use Rattle.numbers.specs.Bytes.{tab}
 use Rattle.numbers.specs.Number.{field}
-use Rattle.numbers.specs.Field.{Field}
-use Rattle.numbers.specs.Field.{Bad, Last, Then}
+use Rattle.numbers.specs.Field.{Field, Bad, Last, Then}
 use Rattle.lines.specs.Bytes.{script_letter}
 use Rattle.lines.specs.Reading.{line_at}
-use Rattle.headers.specs.ParsedHeader.{ParsedHeader}
-use Rattle.headers.specs.ParsedHeader.{Good as GoodHeader, Not as NoHeader}
-use Rattle.headers.specs.HeaderLine.{HeaderLine}
-use Rattle.headers.specs.HeaderLine.{Header, BadHeader, Unfinished as Unended}
+use Rattle.headers.specs.ParsedHeader.{ParsedHeader, Good as GoodHeader, Not as NoHeader}
+use Rattle.headers.specs.HeaderLine.{HeaderLine, Header, BadHeader, Unfinished as Unended}
 
 -- a number that a tab ends, and the place after it
 abbrev pub number_then : Field → Option (ℕ × ℕ)

@@ -6,10 +6,8 @@ use mathlib.Core.Path.{◌≡◌, refl}
 use lib.Dec.{leb}
 use lib.ListN.{length, take, drop}
 use Rattle.lines.specs.Reading.{line_end_lem, parse_step_lem, step_line_lem, read_step, step_line_number, step_number}
-use Rattle.lines.specs.Ending.{Ending}
-use Rattle.lines.specs.Ending.{At, Long, Short}
-use Rattle.lines.specs.Parsed.{Parsed}
-use Rattle.lines.specs.Parsed.{Good, Not}
+use Rattle.lines.specs.Ending.{Ending, At, Long, Short}
+use Rattle.lines.specs.Parsed.{Parsed, Good, Not}
 use Rattle.lines.specs.StepLine.{Finished}
 use Rattle.lines.proofs.Turns.{step_to}
 

@@ -21,8 +21,7 @@ use Rattle.lines.specs.ShortLine.{digit, short_two, short_one, short_line}
 use Rattle.numbers.specs.Field.{Last, Then}
 use Rattle.lines.specs.Ending.{At}
 use Rattle.lines.specs.Parsed.{Not}
-use Rattle.lines.specs.Short.{Short}
-use Rattle.lines.specs.Short.{One, Two, Other}
+use Rattle.lines.specs.Short.{Short, One, Two, Other}
 use Rattle.numbers.proofs.Turns.{opened}
 
 pub digit_says : (b : ℕ) → digit b ≡ true → (48 ≤ b) × (b ≤ 57)

@@ -14,10 +14,8 @@ use Rattle.numbers.specs.Bytes.{end}
 use Rattle.numbers.proofs.Turns.{opened}
 use Rattle.lines.specs.Bytes.{line_most}
 use Rattle.lines.specs.Reading.{ending, line_end_lem, parse_step_lem, step_line_lem}
-use Rattle.lines.specs.Ending.{Ending}
-use Rattle.lines.specs.Ending.{At, Long, Short}
-use Rattle.lines.specs.StepLine.{StepLine}
-use Rattle.lines.specs.StepLine.{Malformed, Unfinished}
+use Rattle.lines.specs.Ending.{Ending, At, Long, Short}
+use Rattle.lines.specs.StepLine.{StepLine, Malformed, Unfinished}
 
 -- the step line at a place that is not past the end, by where it ends
 abbrev pub step_to : List ℕ → ℕ → Ending → StepLine

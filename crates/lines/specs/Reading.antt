@@ -8,14 +8,10 @@ use Rattle.parts.specs.declared.answer.Step.TheVariants.{R, N, P, I, C, L}
 use Rattle.numbers.specs.Bytes.{tab, end}
 use Rattle.lines.specs.Bytes.{line_most, letter_of}
 use Rattle.numbers.specs.Number.{field}
-use Rattle.numbers.specs.Field.{Field}
-use Rattle.numbers.specs.Field.{Bad, Last, Then}
-use Rattle.lines.specs.Ending.{Ending}
-use Rattle.lines.specs.Ending.{At, Long, Short}
-use Rattle.lines.specs.Parsed.{Parsed}
-use Rattle.lines.specs.Parsed.{Good, Not}
-use Rattle.lines.specs.StepLine.{StepLine}
-use Rattle.lines.specs.StepLine.{Line, Finished, Malformed, Unfinished}
+use Rattle.numbers.specs.Field.{Field, Bad, Last, Then}
+use Rattle.lines.specs.Ending.{Ending, At, Long, Short}
+use Rattle.lines.specs.Parsed.{Parsed, Good, Not}
+use Rattle.lines.specs.StepLine.{StepLine, Line, Finished, Malformed, Unfinished}
 
 -- looks at bytes i, i + 1 and so on, at most f of them, for a line's end
 unfoldable pub ending : ℕ → ℕ → List ℕ → Ending

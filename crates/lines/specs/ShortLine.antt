@@ -2,8 +2,7 @@
 use Rattle.std.specs.Prelude.{ℕ, ◌+◌, ◌-◌, Bool, cond, ◌&&◌, List, eqb, leb, ltb, length, get_or}
 use Rattle.parts.specs.Parts.{core_no, unit_no}
 use Rattle.numbers.specs.Bytes.{tab, end}
-use Rattle.lines.specs.Short.{Short}
-use Rattle.lines.specs.Short.{One, Two, Other}
+use Rattle.lines.specs.Short.{Short, One, Two, Other}
 
 -- whether a byte is a digit
 abbrev pub digit : ℕ → Bool

@@ -12,8 +12,7 @@ use lib.ListN.{length, length-append}
 use borrow.Author.Tests.{ltb-true, ltb-false, lt-ltb, le-ltb, le-leb, ne_eqb, eqb-true, eqb-false}
 use Rattle.numbers.specs.Bytes.{tab}
 use Rattle.numbers.specs.Number.{digits, decimal, number_most, follows, scan}
-use Rattle.numbers.specs.Field.{Field}
-use Rattle.numbers.specs.Field.{Bad, Last, Then}
+use Rattle.numbers.specs.Field.{Field, Bad, Last, Then}
 use Rattle.numbers.proofs.Turns.{follows_says}
 
 -- How a number is written

@@ -12,8 +12,7 @@ use borrow.Author.Tests.{eq-eqb, ne_eqb, not-true, not-false, leb-true}
 use Rattle.parts.proofs.Bools.{and_left, and_right}
 use Rattle.numbers.specs.Bytes.{tab}
 use Rattle.numbers.specs.Number.{number_most, follows, scan}
-use Rattle.numbers.specs.Field.{Field}
-use Rattle.numbers.specs.Field.{Bad, Last, Then}
+use Rattle.numbers.specs.Field.{Field, Bad, Last, Then}
 
 pub opened : (s : List ℕ) (i : ℕ) → i < length s → drop i s ≡ get_or s i 0 ∷ drop (i + 1) s
 opened s i h = rw (add-one, drop-cons s i 0)

@@ -1,8 +1,7 @@
 -- "Numbers are decimal, 0 to 65,535, no sign, no leading zero."
 use Rattle.std.specs.Prelude.{ℕ, zero, suc, ◌+◌, ◌-◌, ◌*◌, ◌/◌, ◌%◌, Bool, true, false, cond, ◌&&◌, not, List, [], ◌∷◌, ◌++◌, eqb, leb, ltb, drop}
 use Rattle.numbers.specs.Bytes.{tab}
-use Rattle.numbers.specs.Field.{Field}
-use Rattle.numbers.specs.Field.{Bad, Last, Then}
+use Rattle.numbers.specs.Field.{Field, Bad, Last, Then}
 
 -- the digits of n, of which there are at most f
 unfoldable pub digits : ℕ → ℕ → List ℕ

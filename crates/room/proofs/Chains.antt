@@ -18,8 +18,7 @@ use Rattle.building.specs.Build.{build}
 use Rattle.numbers.specs.Number.{number_most}
 use Rattle.lines.specs.Bytes.{line_most, output_letter}
 use Rattle.lines.specs.Reading.{read_step}
-use Rattle.lines.specs.StepLine.{StepLine}
-use Rattle.lines.specs.StepLine.{Line, Finished, Malformed, Unfinished}
+use Rattle.lines.specs.StepLine.{StepLine, Line, Finished, Malformed, Unfinished}
 use Rattle.headers.specs.Header.{read_header}
 use Rattle.headers.specs.HeaderLine.{Header}
 use Rattle.digits.specs.Text.{pasted}

@@ -15,8 +15,7 @@ use Rattle.parts.specs.declared.kinds.Counts.{Counts}
 use Rattle.block.specs.Sound.{sound}
 use Rattle.block.specs.Table.{Shaped}
 use Rattle.lines.specs.Reading.{read_step}
-use Rattle.lines.specs.StepLine.{StepLine}
-use Rattle.lines.specs.StepLine.{Line, Finished as Nothing, Malformed as NoStep, Unfinished as Cut}
+use Rattle.lines.specs.StepLine.{StepLine, Line, Finished as Nothing, Malformed as NoStep, Unfinished as Cut}
 use Rattle.headers.specs.Header.{read_header}
 use Rattle.headers.specs.HeaderLine.{Header}
 use Rattle.digits.specs.Text.{pasted}

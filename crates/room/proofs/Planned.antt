@@ -14,8 +14,7 @@ use Rattle.stops.specs.Due.{due}
 use Rattle.stops.specs.declared.run.Run.{Run}
 use Rattle.stops.specs.declared.run.Stop.{Stop}
 use Rattle.stops.specs.declared.run.Stop.TheVariants.{NoRoom}
-use Rattle.stops.specs.Todo.{Todo}
-use Rattle.stops.specs.Todo.{Work, Stop as Halt}
+use Rattle.stops.specs.Todo.{Todo, Work, Stop as Halt}
 use Rattle.walks.specs.Walk.{Reply, Ended, walked}
 use Rattle.walks.proofs.Same.{walked_same}
 use Rattle.calls.specs.Call.{Known, working, step_asked, header_asked, asked, desk_of, call}

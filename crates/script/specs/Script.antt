@@ -2,8 +2,7 @@
 use Rattle.std.specs.Prelude.{ℕ, ◌-◌, List, length}
 use Rattle.std.specs.Borrow.{Bor}
 use Rattle.lines.specs.Reading.{read_step}
-use Rattle.lines.specs.StepLine.{StepLine}
-use Rattle.lines.specs.StepLine.{Line, Finished, Malformed, Unfinished}
+use Rattle.lines.specs.StepLine.{StepLine, Line, Finished, Malformed, Unfinished}
 use Rattle.script.specs.declared.reader.ScriptReader.{ScriptReader}
 use Rattle.script.specs.declared.reader.ReadOn.{ReadOn}
 

@@ -1,11 +1,9 @@
 -- "Step line order: finished, 24, 22, 21, 16, 23." What is due at a step line; 23 is known later, when its answer is.
 use Rattle.std.specs.Prelude.{ℕ, Bool, cond, List, leb, length}
 use Rattle.lines.specs.Reading.{read_step}
-use Rattle.lines.specs.StepLine.{StepLine}
-use Rattle.lines.specs.StepLine.{Line, Finished as Nothing, Malformed as NoStep, Unfinished as Cut}
+use Rattle.lines.specs.StepLine.{StepLine, Line, Finished as Nothing, Malformed as NoStep, Unfinished as Cut}
 use Rattle.stops.specs.Run.{steps_most}
-use Rattle.stops.specs.Todo.{Todo}
-use Rattle.stops.specs.Todo.{Work, Stop as Halt}
+use Rattle.stops.specs.Todo.{Todo, Work, Stop as Halt}
 use Rattle.lines.specs.declared.reading.BadLine.{BadLine}
 use Rattle.lines.specs.declared.reading.BadLine.TheVariants as bad_line
 use Rattle.headers.specs.declared.reading.BadHeader as bad_header

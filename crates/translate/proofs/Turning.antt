@@ -41,8 +41,7 @@ use Rattle.walks.specs.Walk.{Ended}
 use Rattle.calls.specs.Call.{Known, desk_of, call, stopped, output}
 use Rattle.calls.specs.Placed.{run_at, stopped_at, answered, worked, opening, placed}
 use Rattle.block.specs.Table.{Shaped}
-use Rattle.stops.specs.Todo.{Todo}
-use Rattle.stops.specs.Todo.{Work, Stop as Halt}
+use Rattle.stops.specs.Todo.{Todo, Work, Stop as Halt}
 use Rattle.stops.specs.declared.run.Run.{Run}
 use Rattle.stops.specs.declared.run.Stop.{Stop}
 use Rattle.stops.specs.declared.run.Stop.TheVariants.{NoRoom, Finished, TooMany, BadHeader, Unfinished}

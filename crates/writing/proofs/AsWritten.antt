@@ -26,18 +26,12 @@ use Rattle.headers.specs.Header.{with_counter_lem, with_second_lem, with_first_l
 use Rattle.digits.specs.Text.{tabbed}
 use Rattle.writing.specs.Writing.{lettered, lettered2, numbers_of, step_bytes, script_header}
 use Rattle.writing.specs.Claims.{Small, Stands}
-use Rattle.numbers.specs.Field.{Field}
-use Rattle.numbers.specs.Field.{Bad, Last, Then}
-use Rattle.lines.specs.Ending.{Ending}
-use Rattle.lines.specs.Ending.{At, Long, Short}
-use Rattle.lines.specs.Parsed.{Parsed}
-use Rattle.lines.specs.Parsed.{Good, Not}
-use Rattle.lines.specs.StepLine.{StepLine}
-use Rattle.lines.specs.StepLine.{Line, Finished, Malformed, Unfinished}
-use Rattle.headers.specs.ParsedHeader.{ParsedHeader}
-use Rattle.headers.specs.ParsedHeader.{Good as GoodHeader, Not as NoHeader}
-use Rattle.headers.specs.HeaderLine.{HeaderLine}
-use Rattle.headers.specs.HeaderLine.{Header, BadHeader, Unfinished as Unended}
+use Rattle.numbers.specs.Field.{Field, Bad, Last, Then}
+use Rattle.lines.specs.Ending.{Ending, At, Long, Short}
+use Rattle.lines.specs.Parsed.{Parsed, Good, Not}
+use Rattle.lines.specs.StepLine.{StepLine, Line, Finished, Malformed, Unfinished}
+use Rattle.headers.specs.ParsedHeader.{ParsedHeader, Good as GoodHeader, Not as NoHeader}
+use Rattle.headers.specs.HeaderLine.{HeaderLine, Header, BadHeader, Unfinished as Unended}
 use Rattle.numbers.proofs.Scanning.{Says, scan_says}
 use Rattle.lines.proofs.Turns.{step_to}
 use Rattle.headers.proofs.Numbers.{header_to}

@@ -28,8 +28,7 @@ use Rattle.headers.specs.Header.{with_counter_lem, with_cores, with_letter, pars
 use Rattle.digits.specs.Text.{tabbed}
 use Rattle.writing.specs.Writing.{lettered, lettered2, numbers_of, step_bytes, script_header}
 use Rattle.writing.specs.Claims.{Small}
-use Rattle.numbers.specs.Field.{Field}
-use Rattle.numbers.specs.Field.{Last, Then}
+use Rattle.numbers.specs.Field.{Field, Last, Then}
 use Rattle.lines.specs.Ending.{At}
 use Rattle.lines.specs.Parsed.{Good}
 use Rattle.lines.specs.StepLine.{Line}
