@@ -3,3 +3,4 @@ pub mod AsWritten
 pub mod Standing
 pub mod Lengths
 pub mod Determined
+pub mod Headed
