@@ -43,10 +43,8 @@ fn read_words(s: &[u8], words: &mut [u32]) {
 
 // The units that an image of these counts has.
 fn put_image(a: &mut Answers<'_>, c: Counts, units: &[LockUnit]) {
-    for x in units
-        .iter()
-        .take(usize::from(c.first) + usize::from(c.second))
-    {
+    let n = usize::from(c.first) + usize::from(c.second);
+    for x in units.iter().take(n) {
         put_unit(a, c, x);
     }
 }
