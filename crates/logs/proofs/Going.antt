@@ -7,7 +7,6 @@ use mathlib.Core.Logic.{inl, inr}
 use mathlib.Core.Path.{◌≡◌, refl, sym, ◌∙◌, ap, subst}
 use native.Mathlib.Omega.{arith}
 use lib.ListN.{length, drop}
-use borrow.Author.Tests.{lt-leb}
 use Rattle.ticket.specs.declared.kinds.Ticket.{Ticket}
 use Rattle.parts.specs.declared.answer.Step.{Step}
 use Rattle.parts.specs.declared.kinds.Counts.{Counts}
@@ -17,16 +16,12 @@ use Rattle.block.specs.declared.stepped.Stepped.{Stepped}
 use Rattle.block.specs.declared.table.Table.{Table}
 use Rattle.building.specs.Build.{build}
 use Rattle.laws.proofs.Claims.{on_sound_lem}
-use Rattle.lines.specs.Reading.{ending}
-use Rattle.lines.specs.Ending.{Ending}
-use Rattle.lines.specs.Ending.{At, Long, Short}
 use Rattle.headers.specs.Header.{read_header}
 use Rattle.headers.specs.HeaderLine.{HeaderLine}
 use Rattle.headers.specs.HeaderLine.{Header, BadHeader as NoHeader, Unfinished as CutHeader}
-use Rattle.stops.specs.Run.{steps_most}
 use Rattle.stops.specs.declared.run.Run.{Run}
 use Rattle.stops.specs.declared.run.Stop.{Stop}
-use Rattle.stops.specs.declared.run.Stop.TheVariants.{Finished, Malformed, BadHeader, Unfinished, TooMany}
+use Rattle.stops.specs.declared.run.Stop.TheVariants.{BadHeader, Unfinished}
 use Rattle.walks.specs.Walk.{Desk}
 use Rattle.walks.specs.Pieces.{lent}
 use Rattle.walks.proofs.Along.{on, stop}
@@ -34,21 +29,17 @@ use Rattle.calls.specs.Call.{Known, known}
 use Rattle.calls.specs.Placed.{run_at}
 use Rattle.calls.proofs.Script.{header_on}
 use Rattle.calls.proofs.Placed.{header_placed}
-use Rattle.loglines.specs.Log.{log_most, given_by}
-use Rattle.loglines.specs.Parts.{part_in}
-use Rattle.logs.specs.Due.{line_in, plain_due, full_due, Timely, DueSays, plain_met, unfit_part, stopped_at}
+use Rattle.loglines.specs.Log.{given_by}
+use Rattle.logs.specs.Due.{full_due, Timely, DueSays, plain_met, unfit_stop, stopped_at}
 use Rattle.logs.specs.Checking.{given, header_judged, checking, check_call, checked}
 use Rattle.loglines.specs.declared.seen.Given.{Given}
 use Rattle.logs.specs.declared.call.LogStop.{LogStop}
 use Rattle.logs.specs.declared.call.LogStop.TheVariants.{Plain}
 use Rattle.logs.specs.declared.call.Checked.{Checked}
 use Rattle.logs.specs.declared.call.Behind.{Behind}
-use Rattle.logs.specs.declared.call.Due.{Due}
-use Rattle.logs.specs.declared.call.Due.TheVariants.{Work, Stop as Halt}
-use Rattle.logs.specs.declared.call.Met.{Met}
-use Rattle.logs.specs.declared.call.Met.TheVariants.{Agrees, Stop as Stops}
+use Rattle.logs.specs.Due.{Due, Work, Halt, Met, Agrees, Stops}
 use Rattle.logs.proofs.Steady.{checking_steady, opened}
-use Rattle.logs.proofs.Turning.{line_on, due_finished, due_many, due_long, due_short, unfit_judged, met_reply, asks, by_tests, due_halts, line_asks, ends, moved, agrees}
+use Rattle.logs.proofs.Turning.{unfit_asks, met_reply, asks, line_asks, ends, moved, agrees}
 use Rattle.logs.proofs.Meeting.{same_step}
 
 -- a step that was answered
@@ -103,53 +94,19 @@ pub begins :
 begins r s e =
     ap (λ (b : Bool). check_call (record { place = r.place; wrote = r.wrote; table = r.table; steps = r.steps; headed = b }) s) e
 
-module _ (r : Run) (s : List ℕ) (headed : r.headed ≡ true) (z : Checked) where
-  stops_at :
-      (why : LogStop) →
-      asks s r.place r.wrote r.table r.steps ≡ inr why →
-      z ≡ stopped_at r.place r.wrote r.table r.steps why →
-      z ≡ checked r (check_call r s)
-  stops_at why e = ends s r.place r.wrote r.table r.steps r z why refl (begins r s headed) e
-
-  -- finished, 24, and 22 or 21 at the line's end, whatever the table
-  halts_at : (why : Stop) → full_due s r.place r.steps ≡ Halt why → z ≡ stopped_at r.place r.wrote r.table r.steps (Plain why) → z ≡ checked r (check_call r s)
-  halts_at why e = stops_at (Plain why) (due_halts s r.place r.wrote r.table r.steps why e)
-
-  pub at_finished : length s ≤ r.place → z ≡ stopped_at r.place r.wrote r.table r.steps (Plain Finished) → z ≡ checked r (check_call r s)
-  at_finished h = halts_at Finished (due_finished s r.place r.steps h)
-
-  pub at_many :
-      r.place < length s →
-      steps_most ≤ r.steps →
-      z ≡ stopped_at r.place r.wrote r.table r.steps (Plain TooMany) →
-      z ≡ checked r (check_call r s)
-  at_many h k = halts_at TooMany (due_many s r.place r.steps h k)
-
-  module _ (more : r.place < length s) (early : r.steps < steps_most) (w : Ending) (says : w ≡ ending log_most r.place (drop r.place s)) where
-    full_due_lem : (why : Stop) → plain_due s r.place ≡ Halt why → full_due s r.place r.steps ≡ Halt why
-    full_due_lem why e = rw (lt-leb (length s) r.place more, lt-leb steps_most r.steps early) e
-
-    pub at_long : w ≡ Long → z ≡ stopped_at r.place r.wrote r.table r.steps (Plain Malformed) → z ≡ checked r (check_call r s)
-    at_long is = halts_at Malformed (full_due_lem Malformed (sym (due_long s r.place w says is)))
-
-    pub at_short : w ≡ Short → z ≡ stopped_at r.place r.wrote r.table r.steps (Plain Unfinished) → z ≡ checked r (check_call r s)
-    at_short is = halts_at Unfinished (full_due_lem Unfinished (sym (due_short s r.place w says is)))
-
-    -- on a table that is not sound
-    pub at_line :
-        sound r.table ≡ false →
-        (e : ℕ) (why : Stop) →
-        w ≡ At e →
-        why ≡ unfit_part (line_in s r.place e) (part_in (line_in s r.place e)) →
-        z ≡ stopped_at r.place r.wrote r.table r.steps (Plain why) →
-        z ≡ checked r (check_call r s)
-    at_line not e why is judged =
-        let o = line_on s r.place e (sym says ∙ is) in
-        stops_at (Plain why)
-        (by_tests s r.place r.wrote r.table r.steps false false (lt-leb (length s) r.place more) (lt-leb steps_most r.steps early) ∙
-        unfit_judged s r.place (known (run_at r.place r.wrote r.table r.steps)) o.0 o.1 not ∙
-        ap (λ (l : List ℕ). inr (Plain (unfit_part l (part_in l)))) (sym o.2) ∙
-        ap (λ (v : Stop). inr (Plain v)) (sym judged))
+-- on a table that is not sound
+pub at_unfit :
+    (r : Run) (s : List ℕ) →
+    r.headed ≡ true →
+    sound r.table ≡ false →
+    (why : Stop) →
+    why ≡ unfit_stop s r.place r.steps →
+    (z : Checked) →
+    z ≡ stopped_at r.place r.wrote r.table r.steps (Plain why) →
+    z ≡ checked r (check_call r s)
+at_unfit r s headed not why says z is =
+    ends s r.place r.wrote r.table r.steps r z (Plain why) refl (begins r s headed)
+    (unfit_asks s r.place r.wrote r.table r.steps not ∙ ap (λ (v : Stop). inr (Plain v)) (sym says)) is
 
 -- The header's line
 
@@ -192,7 +149,11 @@ module _ (r : Run) (s : List ℕ) (unread : r.headed ≡ false) (h : HeaderLine)
     opens = go (read_header (drop r.place s) 0) refl
       where
         same : (d : Counts) (m : Ticket) (used : ℕ) → Header c n next ≡ Header d m (r.place + used) → (d ≡ c) × (m ≡ n) × (r.place + used ≡ next)
-        same d m used e = (cc, cc, cc)
+        same d m used e = (
+          ap (λ (w : HeaderLine). elim w [ Header v p i ↦ v | NoHeader ↦ c | CutHeader ↦ c ]) (sym e),
+          ap (λ (w : HeaderLine). elim w [ Header v p i ↦ p | NoHeader ↦ n | CutHeader ↦ n ]) (sym e),
+          ap (λ (w : HeaderLine). elim w [ Header v p i ↦ i | NoHeader ↦ next | CutHeader ↦ next ]) (sym e),
+        )
 
         go : (w : HeaderLine) → read_header (drop r.place s) 0 ≡ w → check_call r s ≡ check_call (after next) s
         go (Header d m used) e =

@@ -18,6 +18,7 @@ use Rattle.loglines.specs.Parts.{part_in, rest_from, are_numbers, judged_in}
 use Rattle.logs.specs.Checking.{given, agreed, line_judged}
 use Rattle.logs.specs.declared.call.LogStop.{LogStop}
 use Rattle.logs.specs.declared.call.LogStop.TheVariants.{Plain, Disagrees}
+use Rattle.std.specs.Prelude.{Option}
 use Rattle.loglines.specs.Parts.{Begins, Not}
 use Rattle.loglines.specs.Parts.{Judged}
 use Rattle.loglines.specs.Parts.{Malformed as NoNumber, Disagrees as IsOff, Agrees}
@@ -33,7 +34,7 @@ module _ (q : Known) (used : ℕ) (s : List ℕ) where
   pub line_not : part_in s ≡ Not → line_judged q used (parse_log s) ≡ inr (Plain Malformed)
   line_not e = ap (line_judged q used) (parse_not s e)
 
-  module _ (x : Step) (n from : ℕ) (e : part_in s ≡ Begins x n from) where
+  module _ (x : Step) (n : ℕ) (from : Option ℕ) (e : part_in s ≡ Begins x n from) where
     -- on a sound table
     pub line_fit :
         sound q.table ≡ true → line_judged q used (parse_log s) ≡ judged_as q x used (judged_in s n from (given (step q.table x)))

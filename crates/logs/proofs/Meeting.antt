@@ -1,14 +1,13 @@
 -- A line whose step was read quickly: the step is the one that is read in full, and where the bytes behind it are the text of what the rules give,
 -- the line is the one that the rules give, which reads back.
 use Prim.Native.Nat.{ℕ, ◌+◌, ◌-◌, ◌≤◌, ◌<◌}
-use mathlib.Core.Bool.{Bool, true, false, not}
+use mathlib.Core.Bool.{Bool, true}
 use mathlib.Core.List.{List, [], ◌∷◌, ◌++◌, append_assoc}
 use mathlib.Core.Logic.{◌⊎◌, inl, inr, ⊎_elim}
 use mathlib.Core.Path.{◌≡◌, refl, sym, ◌∙◌, ap, subst}
 use native.Mathlib.Omega.{arith}
 use lib.ListN.{length, take, drop, take-append-drop, length-append, length-drop}
 use lib.Seq.{take_all, drop-drop, take-append_seam}
-use borrow.Author.Tests.{not-true, not-false}
 use Rattle.ticket.specs.declared.kinds.Ticket.{Ticket}
 use Rattle.parts.specs.Answer.{number_of}
 use Rattle.parts.specs.declared.answer.Answer.{Answer}
@@ -28,36 +27,31 @@ use Rattle.writing.specs.Claims.{Small}
 use Rattle.loglines.specs.Log.{log_most, Shown, parse_log, grants_given, given_by}
 use Rattle.loglines.specs.Parts.{part_in, rest_from, judged_in}
 use Rattle.loglines.specs.Quick.{tabs, step_text, OneDigit, StandsAt, SameBytes}
-use Rattle.logs.specs.Due.{line_in, plain_due, Reads, Follows, met_by, plain_met}
+use Rattle.logs.specs.Due.{line_in, plain_due, Reads, Follows, met_by, due_met, plain_met}
+use Rattle.logs.specs.declared.call.Rest.{Rest}
 use Rattle.logs.specs.declared.call.Behind.{Behind}
-use Rattle.logs.specs.declared.call.Due.TheVariants.{Work}
-use Rattle.logs.specs.declared.call.Met.{Met}
-use Rattle.logs.specs.declared.call.Met.TheVariants.{Agrees}
-use Rattle.loglines.specs.Parts.{Begins}
+use Rattle.logs.specs.declared.call.Behind.TheVariants.{Quick, Full}
+use Rattle.std.specs.Prelude.{Option, Some}
+use Rattle.logs.specs.Due.{Reading, Met, Agrees}
+use Rattle.loglines.specs.Parts.{Part, Begins, Not}
 use Rattle.loglines.specs.Parts.{Judged}
 use Rattle.loglines.specs.Parts.{Agrees as AllGiven}
 use Rattle.loglines.proofs.Parts.{parse_bad, parse_line}
 use Rattle.loglines.proofs.Quickly.{in_full}
 use Rattle.loglines.proofs.Offs.{given_most, first_same}
 use Rattle.loglines.proofs.ReadsBack.{small_append, line_bytes, log_written}
-use Rattle.logs.proofs.Turning.{full, ranged, met_work, due_at}
+use Rattle.logs.proofs.Turning.{full, same_reading, ranged, due_at}
 
 -- The step is the one that is read in full
 
-pub same_step : (s : List ℕ) (place : ℕ) (x : Step) (b : Behind) → Reads s place x b → (y : Step) (c : Behind) → plain_due s place ≡ Work y c → y ≡ x
-same_step s place x b r y c is = go b.quick refl
-  where
-    same_part : (n f m g : ℕ) → Begins y n f ≡ Begins x m g → y ≡ x
-    same_part n f m g e = cc
+same_part : (x y : Step) (n m : ℕ) (f g : Option ℕ) → Begins y n f ≡ Begins x m g → y ≡ x
+same_part x y n m f g e = ap (λ (p : Part). elim p [ Begins z k h ↦ z | Not ↦ y ]) e
 
-    same_work : Work y c ≡ Work x b → y ≡ x
-    same_work e = cc
-
-    go : (q : Bool) → b.quick ≡ q → y ≡ x
-    go true e =
-        let w = full s place y c is in
-        same_part _ _ _ _ (sym w.part ∙ in_full s place b.from w.e x (r.quickly e) w.ends)
-    go false e = same_work (sym is ∙ r.fully e)
+pub same_step : (s : List ℕ) (place : ℕ) (x : Step) (b : Behind) → Reads s place x b → (y : Step) (r : Rest) → plain_due s place ≡ Reading y r → y ≡ x
+same_step s place x (Quick from) reads y r is =
+    let w = full s place y r is in
+    same_part x y _ _ _ _ (sym w.part ∙ in_full s place from w.e x reads w.ends)
+same_step s place x (Full q) reads y r is = (same_reading x y q r (sym is ∙ reads)).0
 
 -- The text of a line
 
@@ -100,7 +94,7 @@ module _
       sym (append_assoc (step_text x) (fields gs) after) ∙
       ap (λ (l : List ℕ). (letter_of x ∷ l) ++ after) (tabs_fields (numbers_of x) gs)
 
-  judged_given : (t : List ℕ) (n f : ℕ) → part_in t ≡ Begins x n f → parse_log t ≡ inl (record { step = x; shown = gs }) → judged_in t n f gs ≡ AllGiven
+  judged_given : (t : List ℕ) (n : ℕ) (f : Option ℕ) → part_in t ≡ Begins x n f → parse_log t ≡ inl (record { step = x; shown = gs }) → judged_in t n f gs ≡ AllGiven
   judged_given t n f part parse = go (rest_from t f) refl
     where
       read : List ℕ → Shown ⊎ Unit {0}
@@ -126,7 +120,7 @@ module _
       ap (λ (l : List ℕ). parse_log (take r.e l)) left_text ∙ r.parse
       in
       let n = length (numbers_of x) in
-      let f = length (step_text x) + 1 in
+      let f = Some (length (step_text x) + 1) in
       let part : part_in (take r.e (drop place s)) ≡ Begins x n f = in_full s place from r.e x stands ends in
       let l = length-append (tabs (numbers_of x)) (fields gs) in
       let m = ap length (tabs_fields (numbers_of x) gs) in
@@ -137,59 +131,59 @@ module _
 
 -- What the code asks of the line behind its step
 
-module _ (s : List ℕ) (place : ℕ) (b : Behind) (line : Follows s place b) where
+module _ (s : List ℕ) (place : ℕ) where
   -- read in full
-  module _ (slow : not b.quick ≡ true) where
-    whole : plain_due s place ≡ Work line.0 b
-    whole = line.1.fully (not-true b.quick slow)
+  pub follows_in : (b : Behind) → Follows s place b → (r : Rest) → b ≡ Full r → (r.numbers ≤ 2) × (place ≤ r.end) × (r.end < length s)
+  follows_in b line r is = let w = subst (Follows s place) is line in ranged s place w.0 r w.1
 
-    pub follows_in : (b.numbers ≤ 2) × (place ≤ b.end) × (b.end < length s)
-    follows_in = let w = ranged s place line.0 b whole in (w.few, w.before, w.inside)
-
-    pub follows_met :
-        (gs : List ℕ) (r : Met) → r ≡ met_by (judged_in (line_in s place b.end) b.numbers b.from gs) b.end → r ≡ plain_met s place gs
-    follows_met gs r f = met_work s place gs (Work line.0 b) (sym whole) line.0 b r refl f
+  pub follows_met :
+      (b : Behind) → Follows s place b → (r : Rest) → b ≡ Full r →
+      (gs : List ℕ) (m : Met) → m ≡ met_by (judged_in (line_in s place r.end) r.numbers r.from gs) r.end → m ≡ plain_met s place gs
+  follows_met b line r is gs m f = let w = subst (Follows s place) is line in f ∙ ap (due_met s place gs) (sym w.1)
 
   -- read quickly
-  module _ (quick : not b.quick ≡ false) where
-    stands : StandsAt s place line.0 b.from
-    stands = line.1.quickly (not-false b.quick quick)
+  module _ (b : Behind) (line : Follows s place b) (from : ℕ) (is : b ≡ Quick from) where
+    reads : Follows s place (Quick from)
+    reads = subst (Follows s place) is line
 
-    pub from_in : b.from ≤ length s
+    stands : StandsAt s place reads.0 from
+    stands = reads.1
+
+    pub from_in : from ≤ length s
     from_in = omega (arith, stands.inside)
 
     module _
         (a : Answer) (t : Ticket) (g : Grants) (small : Small (given_by a t g)) (o m : List ℕ) (n : ℕ) (put : Puts o m 0 n (shown_bytes a t g)) (yes : Bool)
-        (alike : SameBytes (take (length s - b.from) (drop b.from s)) m n yes) (is : yes ≡ true) where
-      same : SameBytes (drop b.from s) m n yes
+        (alike : SameBytes (take (length s - from) (drop from s)) m n yes) (so : yes ≡ true) where
+      same : SameBytes (drop from s) m n yes
       same =
-          let l = length-drop b.from s in
-          subst (λ (t : List ℕ). SameBytes t m n yes) (take_all (length s - b.from) (drop b.from s) (omega arith)) alike
+          let l = length-drop from s in
+          subst (λ (t : List ℕ). SameBytes t m n yes) (take_all (length s - from) (drop from s) (omega arith)) alike
 
       long : n ≡ length (shown_bytes a t g)
       long = put.goes ∙ omega arith
 
-      behind : take n (drop b.from s) ≡ shown_bytes a t g
+      behind : take n (drop from s) ≡ shown_bytes a t g
       behind =
-          (same is).0 ∙
+          (same so).0 ∙
           ap (take n) put.holds ∙
           ap (λ (k : ℕ). take k (shown_bytes a t g ++ drop (0 + length (shown_bytes a t g)) o)) long ∙
           take-append_seam (shown_bytes a t g) (drop (0 + length (shown_bytes a t g)) o)
 
-      text : drop b.from s ≡ fields (given_by a t g) ++ drop n (drop b.from s)
+      text : drop from s ≡ fields (given_by a t g) ++ drop n (drop from s)
       text =
-          sym (take-append-drop n (drop b.from s)) ∙
-          ap (λ (l : List ℕ). l ++ drop n (drop b.from s)) (behind ∙ shown_fields a t g)
+          sym (take-append-drop n (drop from s)) ∙
+          ap (λ (l : List ℕ). l ++ drop n (drop from s)) (behind ∙ shown_fields a t g)
 
-      pub quick_met : Agrees (b.from + n) ≡ plain_met s place (given_by a t g)
+      pub quick_met : Agrees (from + n) ≡ plain_met s place (given_by a t g)
       quick_met =
           let z : n ≡ length (fields (given_by a t g)) = long ∙ ap length (shown_fields a t g) in
-          ap (λ (k : ℕ). Agrees (b.from + k)) z ∙
+          ap (λ (k : ℕ). Agrees (from + k)) z ∙
           sym
-          (quick_agrees s place b.from line.0 stands (given_by a t g) (drop n (drop b.from s)) small (given_most a t g) text)
+          (quick_agrees s place from reads.0 stands (given_by a t g) (drop n (drop from s)) small (given_most a t g) text)
 
-      pub quick_in : b.from + n ≤ length s
-      quick_in = let l = length-drop b.from s in omega (arith, (same is).1, stands.inside)
+      pub quick_in : from + n ≤ length s
+      quick_in = let l = length-drop from s in omega (arith, (same so).1, stands.inside)
 
 -- the space for the text
 pub shown_most : (a : Answer) (t : Ticket) (g : Grants) → length (shown_bytes a t g) ≤ 88

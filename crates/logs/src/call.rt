@@ -1,22 +1,22 @@
 // One call: lines are read, worked and held to what they show until one stops the run, which then stands at its start.
-ghost use Rattle.std.specs.Prelude.{◌≡◌, true, false, ◌+◌, ◌≤◌, ◌<◌, length};
+ghost use Rattle.std.specs.Prelude.{◌≡◌, true, false, ◌+◌, ◌≤◌, ◌<◌, length, drop, IfOk};
 ghost use Rattle.building.specs.Build.{build};
 ghost use Rattle.block.specs.Sound.{sound};
 ghost use Rattle.calls.specs.Placed.{run_at};
 ghost use Rattle.writing.specs.Claims.{Small};
 ghost use Rattle.room.specs.Claims.{Held};
-ghost use Rattle.loglines.specs.Log.{given_by};
+ghost use Rattle.lines.specs.Reading.{ending};
+ghost use Rattle.loglines.specs.Log.{log_most, given_by};
 ghost use Rattle.loglines.specs.Parts.{part_in, judged_in};
-ghost use Rattle.logs.specs.Due.{line_in, part_due, plain_due, DueSays, Follows, met_by, plain_met, unfit_part, stopped_at};
+ghost use Rattle.logs.specs.declared.call.LogStop.TheVariants.{Plain};
+ghost use Rattle.logs.specs.Due.{line_in, end_found, part_due, plain_due, DueSays, Follows, mismatch_stop, met_by, plain_met, unfit_part, unfit_stop, stopped_at};
 ghost use Rattle.logs.specs.Checking.{log_number, check_call, checked};
 
 use block::{Table, gathered, gives_way, nexts_of, rows_of, unit_with};
 use building::build;
-use headers::HeaderLine;
-use lines::Ending;
-use loglines::{
-    Given, Judged, Off, Part, Quick, all_numbers, begins, held, log_end, quick_part, step_part,
-};
+use headers::BadHeader;
+use lines::NoEnd;
+use loglines::{Given, Mismatch, Off, all_numbers, begins, held, log_end, quick_part, step_part};
 use parts::{Counts, Step, dequeues};
 use places::{core_place, other_place, unit_place};
 use plan::{Plan, plan_step};
@@ -29,10 +29,30 @@ use ticket::Ticket;
 const SHOWN_MOST: usize = 88;
 
 // Why a call stopped: as a translation does, never for want of room; or 40, the line disagrees.
-#[derive(Clone, Copy)]
+#[derive(Clone, Copy, Debug, PartialEq, Eq)]
 pub enum LogStop {
     Plain(Stop),
     Disagrees(Off),
+}
+
+impl From<Stop> for LogStop {
+    ghost from_gives = { λ s r. r ≡ Plain s };
+
+    fn from(s: Stop) -> LogStop {
+        LogStop::Plain(s)
+    }
+}
+
+// A number that is none is 21.
+impl From<Mismatch> for LogStop {
+    ghost from_gives = { λ m r. r ≡ mismatch_stop m };
+
+    fn from(m: Mismatch) -> LogStop {
+        match m {
+            Mismatch::Malformed => LogStop::Plain(Stop::Malformed),
+            Mismatch::Disagrees(o) => LogStop::Disagrees(o),
+        }
+    }
 }
 
 // Its number.
@@ -55,116 +75,96 @@ pub struct Checked {
 fn given_by(p: Plan) -> Given
     ensures { result ≡ record { answer = p.answer; ticket = p.ticket; grants = p.grants } }
 {
-    let answer = p.answer;
-    let ticket = p.ticket;
-    let grants = p.grants;
     Given {
-        answer,
-        ticket,
-        grants,
+        answer: p.answer,
+        ticket: p.ticket,
+        grants: p.grants,
     }
 }
 
-// Where the numbers behind a step part stand: from the tab at a place, if the part was read quickly; else in the line that ends at a
-// place, behind so many numbers of the step.
+// What is behind the step part of a line that was read in full: how many numbers the step has, the place in the line of the field
+// behind them, if there is one, and the place of the line's end.
 #[derive(Clone, Copy)]
-pub(crate) struct Behind {
-    quick: bool,
-    from: usize,
+pub(crate) struct Rest {
     numbers: u32,
+    from: Option<usize>,
     end: usize,
 }
 
-// What is due at a place: a step, and where its numbers stand; or why the run stops.
+// Where the numbers behind a step part stand: from the tab at a place, if the part was read quickly; else as it was read in full.
 #[derive(Clone, Copy)]
-enum Due {
-    Work(Step, Behind),
-    Stop(Stop),
+pub(crate) enum Behind {
+    Quick(usize),
+    Full(Rest),
 }
+
+// What is due at a place: a step, and where its numbers stand; or why the run stops.
+type Due = Result<(Step, Behind), Stop>;
+
+// The same, where the line is read in full.
+type PlainDue = Result<(Step, Rest), Stop>;
 
 // Finished, 24, 22, and 21 where there is no step part.
 fn line_due(log: &[u8], place: usize, steps: u32) -> Due
     ensures { DueSays log.now place steps result }
 {
     if log.len() <= place {
-        return Due::Stop(Stop::Finished);
+        return Err(Stop::Finished);
     }
     if STEPS_MOST <= steps {
-        return Due::Stop(Stop::TooMany);
+        return Err(Stop::TooMany);
     }
-    match quick_part(log, place) {
-        Quick::Step(s, from) => Due::Work(
-            s,
-            Behind {
-                quick: true,
-                from,
-                numbers: 0,
-                end: 0,
-            },
-        ),
-        Quick::Other => plain_due(log, place),
+    if let Some((s, from)) = quick_part(log, place) {
+        return Ok((s, Behind::Quick(from)));
     }
+    let (s, rest) = plain_due(log, place)?;
+    Ok((s, Behind::Full(rest)))
 }
 
-fn plain_due(log: &[u8], place: usize) -> Due
-    ensures { result ≡ plain_due log.now place }
+// The end of the line at a place: 21 where none is within the longest line, 22 where it is still to come.
+fn end_of(log: &[u8], place: usize) -> Result<usize, Stop>
+    ensures value { result ≡ end_found (ending log_most place (drop place log.now)) }
+    ensures within { IfOk result (λ e. (place ≤ e) × (e < length log.now)) }
 {
     match log_end(log, place) {
-        Ending::At(e) => part_due(&log[place..e], e),
-        Ending::Long => Due::Stop(Stop::Malformed),
-        Ending::Short => Due::Stop(Stop::Unfinished),
+        Ok(e) => Ok(e),
+        Err(NoEnd::TooLong) => Err(Stop::Malformed),
+        Err(NoEnd::CutOff) => Err(Stop::Unfinished),
     }
 }
 
-fn part_due(line: &[u8], end: usize) -> Due
+fn plain_due(log: &[u8], place: usize) -> PlainDue
+    ensures { result ≡ plain_due log.now place }
+{
+    let e = end_of(log, place)?;
+    part_due(&log[place..e], e)
+}
+
+fn part_due(line: &[u8], end: usize) -> PlainDue
     ensures { result ≡ part_due (part_in line.now) end }
 {
-    match step_part(line) {
-        Part::Step(s, numbers, from) => Due::Work(
-            s,
-            Behind {
-                quick: false,
-                from,
-                numbers,
-                end,
-            },
-        ),
-        Part::Not => Due::Stop(Stop::Malformed),
-    }
+    let (s, numbers, from) = step_part(line).ok_or(Stop::Malformed)?;
+    Ok((s, Rest { numbers, from, end }))
 }
 
 // What a line comes to: it agrees, and the next one starts there; or why the run stops.
-#[derive(Clone, Copy)]
-enum Met {
-    Agrees(usize),
-    Stop(LogStop),
-}
+type Met = Result<usize, LogStop>;
 
-// The numbers of a line that ends at a place, behind so many of its step.
-fn line_met(log: &[u8], place: usize, numbers: u32, from: usize, end: usize, p: Given) -> Met
-    requires { (numbers ≤ 2) × (place ≤ end) × (end < length log.now) }
-    ensures { result ≡ met_by (judged_in (line_in log.now place end) numbers from (given_by p.answer p.ticket p.grants)) end }
+// The numbers of a line, behind its step part.
+fn line_met(log: &[u8], place: usize, rest: Rest, p: Given) -> Met
+    requires { (rest.numbers ≤ 2) × (place ≤ rest.end) × (rest.end < length log.now) }
+    ensures { result ≡ met_by (judged_in (line_in log.now place rest.end) rest.numbers rest.from (given_by p.answer p.ticket p.grants)) rest.end }
 {
-    match held(&log[place..end], numbers, from, p) {
-        Judged::Agrees => Met::Agrees(end + 1),
-        Judged::Malformed => Met::Stop(LogStop::Plain(Stop::Malformed)),
-        Judged::Disagrees(o) => Met::Stop(LogStop::Disagrees(o)),
-    }
+    held(&log[place..rest.end], rest.numbers, rest.from, p)?;
+    Ok(rest.end + 1)
 }
 
 // The line at a place, read in full.
 fn plain_met(log: &[u8], place: usize, p: Given) -> Met
     ensures { result ≡ plain_met log.now place (given_by p.answer p.ticket p.grants) }
 {
-    match plain_due(log, place) {
-        Due::Work(_, b) => {
-            let numbers = b.numbers;
-            let from = b.from;
-            let end = b.end;
-            line_met(log, place, numbers, from, end, p)
-        }
-        Due::Stop(why) => Met::Stop(LogStop::Plain(why)),
-    }
+    let (_, rest) = plain_due(log, place)?;
+    line_met(log, place, rest, p)
 }
 
 // A line whose step was planned: the numbers behind it are held to what the rules give, by their text if the step was read quickly.
@@ -172,20 +172,17 @@ fn line_meets(log: &[u8], place: usize, b: Behind, p: Given, space: &mut [u8; SH
     requires { Follows log.now place b × Small (given_by p.answer p.ticket p.grants) }
     ensures { result ≡ plain_met log.now place (given_by p.answer p.ticket p.grants) }
 {
-    let numbers = b.numbers;
-    let from = b.from;
-    let end = b.end;
-    if !b.quick {
-        return line_met(log, place, numbers, from, end, p);
+    match b {
+        Behind::Full(rest) => line_met(log, place, rest, p),
+        Behind::Quick(from) => {
+            let n = expected::put_shown(space, 0, p.answer, p.ticket, p.grants);
+            if begins(&log[from..], space, n) {
+                Ok(from + n)
+            } else {
+                plain_met(log, place, p)
+            }
+        }
     }
-    let answer = p.answer;
-    let ticket = p.ticket;
-    let grants = p.grants;
-    let n = expected::put_shown(space, 0, answer, ticket, grants);
-    if begins(&log[from..], space, n) {
-        return Met::Agrees(from + n);
-    }
-    plain_met(log, place, p)
 }
 
 // The run stopped, with its table.
@@ -207,14 +204,24 @@ fn unfit(line: &[u8]) -> Stop
     ensures { result ≡ unfit_part line.now (part_in line.now) }
 {
     match step_part(line) {
-        Part::Not => Stop::Malformed,
-        Part::Step(_, _, from) => {
-            if all_numbers(line, from) {
-                Stop::Unsound
-            } else {
-                Stop::Malformed
-            }
-        }
+        Some((_, _, from)) if all_numbers(line, from) => Stop::Unsound,
+        _ => Stop::Malformed,
+    }
+}
+
+// Why a run on such a table stops: finished, 24, 22, 21, 16.
+fn unfit_stop(log: &[u8], place: usize, steps: u32) -> Stop
+    ensures { result ≡ unfit_stop log.now place steps }
+{
+    if log.len() <= place {
+        return Stop::Finished;
+    }
+    if STEPS_MOST <= steps {
+        return Stop::TooMany;
+    }
+    match end_of(log, place) {
+        Ok(e) => unfit(&log[place..e]),
+        Err(why) => why,
     }
 }
 
@@ -222,22 +229,8 @@ fn at_unfit(run: Run, log: &[u8]) -> Checked
     requires { (run.headed ≡ true) × (sound run.table ≡ false) }
     ensures { result ≡ checked run (check_call run log.now) }
 {
-    let place = run.place;
-    let t = run.table;
-    if log.len() <= place {
-        return stopped(run, t, LogStop::Plain(Stop::Finished));
-    }
-    if STEPS_MOST <= run.steps {
-        return stopped(run, t, LogStop::Plain(Stop::TooMany));
-    }
-    match log_end(log, place) {
-        Ending::At(e) => {
-            let why = unfit(&log[place..e]);
-            stopped(run, t, LogStop::Plain(why))
-        }
-        Ending::Long => stopped(run, t, LogStop::Plain(Stop::Malformed)),
-        Ending::Short => stopped(run, t, LogStop::Plain(Stop::Unfinished)),
-    }
+    let why = unfit_stop(log, run.place, run.steps);
+    stopped(run, run.table, LogStop::Plain(why))
 }
 
 // The lines from where the run stands, on a sound table. Its units are worked apart: what becomes of a unit is put back where it
@@ -263,8 +256,8 @@ fn log_lines(run: Run, log: &[u8]) -> Checked
     loop {
         let place = at.place;
         match line_due(log, place, at.steps) {
-            Due::Stop(why) => return stopped(at, gathered(table, rows, nexts), LogStop::Plain(why)),
-            Due::Work(s, behind) => {
+            Err(why) => return stopped(at, gathered(table, rows, nexts), LogStop::Plain(why)),
+            Ok((s, behind)) => {
                 let o = core_place(s);
                 let k = o.0 as usize;
                 let c = table.cores[k];
@@ -290,8 +283,8 @@ fn log_lines(run: Run, log: &[u8]) -> Checked
                 let p = plan_step(s, table.counts, table.counter, late, c, x, y);
                 let counter = p.counter;
                 match line_meets(log, place, behind, given_by(p), &mut space) {
-                    Met::Stop(why) => return stopped(at, gathered(table, rows, nexts), why),
-                    Met::Agrees(next) => {
+                    Err(why) => return stopped(at, gathered(table, rows, nexts), why),
+                    Ok(next) => {
                         let a = p.first;
                         let b = p.second;
                         let core = p.core;
@@ -371,15 +364,15 @@ fn from_header(run: Run, log: &[u8]) -> Checked
     let wrote = run.wrote;
     let done = run.steps;
     match script::read_header(log, place) {
-        HeaderLine::Header(counts, counter, next) => {
+        Ok((counts, counter, next)) => {
             let opened = fresh_run(next, wrote, counts, counter, done);
             log_lines(opened, log)
         }
-        HeaderLine::BadHeader => Checked {
+        Err(BadHeader::Malformed) => Checked {
             run,
             why: LogStop::Plain(Stop::BadHeader),
         },
-        HeaderLine::Unfinished => Checked {
+        Err(BadHeader::Unfinished) => Checked {
             run,
             why: LogStop::Plain(Stop::Unfinished),
         },

@@ -1,5 +1,6 @@
 -- The case of the header's line that was read; the table that was built is sound, and its counter has sixteen bits.
 use mathlib.Core.Path.{refl, sym, ◌∙◌, ap, subst}
+use Rattle.std.specs.Prelude.{Err}
 use native.Mathlib.Omega.{arith}
 use Rattle.block.specs.Sound.{sound}
 use Rattle.laws.proofs.Keeping.{built_sound}
@@ -13,21 +14,21 @@ use Rattle.logs.proofs.call.from_header.Goals as goal
 pub log_lines-requires : goal.log_lines-requires
 log_lines-requires c =
     let q = c.fresh_run-opened.ensures in
-    let h = c.in-Header in
+    let h = c.in-Ok in
     let most = (header_read_is_written c.args.log.now c.args.run.place h.counts h.counter h.next (sym h.ensures.0)).2 in (
       ap (λ (r : Run). r.headed) q,
       ap (λ (r : Run). sound r.table) q ∙ (built_sound h.counts h.counter).0,
       subst (λ (r : Run). Held r.table) (sym q) (held_built h.counts h.counter (omega (arith, most))),
     )
 
-pub returns-in-Header : goal.returns-in-Header
-returns-in-Header c =
-    let h = c.in-Header in
+pub returns-in-Ok : goal.returns-in-Ok
+returns-in-Ok c =
+    let h = c.in-Ok in
     opened_by c.args.run c.args.log.now c.requires _ h.ensures.0 h.counts h.counter h.next refl c.fresh_run-opened.result _
     c.fresh_run-opened.ensures c.log_lines.ensures
 
-pub returns-in-BadHeader : goal.returns-in-BadHeader
-returns-in-BadHeader c = no_header c.args.run c.args.log.now c.requires _ c.in-BadHeader.ensures.0 refl
+pub returns-in-Err-Malformed : goal.returns-in-Err-Malformed
+returns-in-Err-Malformed c = no_header c.args.run c.args.log.now c.requires _ c.in-Err-Malformed.ensures.0 (ap Err c.in-Err-Malformed.field-0-is)
 
-pub returns-in-Unfinished : goal.returns-in-Unfinished
-returns-in-Unfinished c = cut_header c.args.run c.args.log.now c.requires _ c.in-Unfinished.ensures.0 refl
+pub returns-in-Err-Unfinished : goal.returns-in-Err-Unfinished
+returns-in-Err-Unfinished c = cut_header c.args.run c.args.log.now c.requires _ c.in-Err-Unfinished.ensures.0 (ap Err c.in-Err-Unfinished.field-0-is)

@@ -40,7 +40,7 @@ use Rattle.loglines.specs.Log.{given_by}
 use Rattle.logs.specs.Due.{Timely, plain_met, stopped_at}
 use Rattle.logs.specs.Checking.{check_call}
 use Rattle.logs.specs.declared.call.LogStop.TheVariants.{Plain}
-use Rattle.logs.specs.declared.call.Met.TheVariants.{Agrees}
+use Rattle.logs.specs.Due.{Agrees}
 use Rattle.logs.proofs.Accepted.{given_small}
 use Rattle.logs.proofs.Turning.{due_halts, ends}
 use Rattle.logs.proofs.Going.{timely, halts, given_same, line_ends, line_moved, line_goes, begins}
@@ -69,8 +69,8 @@ so_far c =
 abbrev table_of : Planned → Table
 table_of p = gathered p.loop-why.table p.loop-why.rows p.loop-why.nexts
 
-line : (p : Planned) → Timely p.args.log.now p.loop-why.at.place p.loop-why.at.steps p.in-Work.s p.in-Work.behind
-line p = timely p.args.log.now p.loop-why.at.place p.loop-why.at.steps _ p.in-Work.s p.in-Work.behind p.in-Work.ensures refl
+line : (p : Planned) → Timely p.args.log.now p.loop-why.at.place p.loop-why.at.steps p.in-Ok.s p.in-Ok.behind
+line p = timely p.args.log.now p.loop-why.at.place p.loop-why.at.steps _ p.in-Ok.s p.in-Ok.behind p.in-Ok.ensures refl
 
 fit : (p : Planned) → sound (table_of p) ≡ true
 fit p = p.loop-why.invariant.2
@@ -82,7 +82,7 @@ even p = p.loop-why.invariant.4 ∙ sym p.loop-why.invariant.5
 granted : (p : Planned) → Within p.plan_step-p.result.first.winner × Within p.plan_step-p.result.second.winner
 granted p =
     let t = table_of p in
-    granted_in p.in-Work.s t.counts t.counter p.late_for-late.result (core_of t p.core_place-o.result.0) _ _ _ p.plan_step-p.ensures
+    granted_in p.in-Ok.s t.counts t.counter p.late_for-late.result (core_of t p.core_place-o.result.0) _ _ _ p.plan_step-p.ensures
 
 passed_at : (b : Best) (k w : CoreNo) → Within b → k.0 < cores → w ≡ passed_to_lem b k → w.0 < cores
 passed_at b k w h l e = rw e (passed_within b k h l)
@@ -91,10 +91,10 @@ passed_at b k w h l e = rw e (passed_within b k h l)
 ready :
     (p : Planned) →
     let r = p.if-dequeuing in
-    Ready (table_of p) p.in-Work.s p.loop-why.invariant.3.shaped (fit p) r.drops r.d r.v r.z
+    Ready (table_of p) p.in-Ok.s p.loop-why.invariant.3.shaped (fit p) r.drops r.d r.v r.z
 ready p =
     let l = p.loop-why in
-    let s = p.in-Work.s in
+    let s = p.in-Ok.s in
     let k = p.core_place-o in
     let i = p.unit_place-i in
     let j = p.other_place-j in
@@ -125,12 +125,12 @@ ready p =
 
 -- the plan put back, on the table without those who are dropped, is the step
 abbrev stepped : Planned → Stepped
-stepped p = put_back (skipped (table_of p) p.in-Work.s) p.core_place-o.result p.unit_place-i.result p.other_place-j.result p.plan_step-p.result
+stepped p = put_back (skipped (table_of p) p.in-Ok.s) p.core_place-o.result p.unit_place-i.result p.other_place-j.result p.plan_step-p.result
 
-does : (p : Planned) → stepped p ≡ on_sound (table_of p) p.in-Work.s
+does : (p : Planned) → stepped p ≡ on_sound (table_of p) p.in-Ok.s
 does p =
     let l = p.loop-why in
-    let s = p.in-Work.s in
+    let s = p.in-Ok.s in
     let r = p.if-dequeuing in
     in_place_apart l.table l.rows l.nexts (even p) s l.invariant.3.shaped (fit p) p.core_place-o.result p.unit_place-i.result
     p.core_place-o.ensures p.unit_place-i.ensures p.other_place-j.result r.drops r.d r.v r.z _ _ _ _ _
@@ -138,12 +138,12 @@ does p =
     (late_in (table_of p) s (core_of (table_of p) p.core_place-o.result.0) l.lives l.owns _ l.invariant.6 l.invariant.7 p.late_for-late.ensures)
     p.plan_step-p.ensures refl
 
-steps_so : (p : Planned) → step (table_of p) p.in-Work.s ≡ stepped p
-steps_so p = on_sound_lem (table_of p) p.in-Work.s (fit p) ∙ sym (does p)
+steps_so : (p : Planned) → step (table_of p) p.in-Ok.s ≡ stepped p
+steps_so p = on_sound_lem (table_of p) p.in-Ok.s (fit p) ∙ sym (does p)
 
 -- the table, its units and its tickets apart, without those who are dropped
 record Left (p : Planned) (z : Table) (rows : List (List Register)) (nexts : List Next) (lives : List Bool) (owns : List ℕ) : Type 0 where
-  so : gathered z rows nexts ≡ skipped (table_of p) p.in-Work.s
+  so : gathered z rows nexts ≡ skipped (table_of p) p.in-Ok.s
   counts : z.counts ≡ p.loop-why.table.counts
   rows_so : length rows ≡ units
   nexts_so : length nexts ≡ units
@@ -174,7 +174,7 @@ module _ (p : Planned) (z : Table) (rows : List (List Register)) (nexts : List N
         so =
             ap (λ (t : Table). gathered t rows nexts) ez ∙
             ap₂ (gathered (record { units = l.table.units; cores = r.d.cores; counts = l.table.counts; counter = l.table.counter })) er en ∙
-            dropped_here l.table l.rows l.nexts (even p) p.in-Work.s l.invariant.3.shaped (fit p) k.result i.result k.ensures i.ensures r.drops r.d r.v r.z
+            dropped_here l.table l.rows l.nexts (even p) p.in-Ok.s l.invariant.3.shaped (fit p) k.result i.result k.ensures i.ensures r.drops r.d r.v r.z
             (ready p) drops;
         counts = ap (λ (t : Table). t.counts) ez;
         rows_so = ap length er ∙ length-set l.rows i.result.0 _ ∙ l.invariant.4;
@@ -201,7 +201,7 @@ module _ (p : Planned) (z : Table) (rows : List (List Register)) (nexts : List N
         so =
             ap (λ (t : Table). gathered t rows nexts) ez ∙
             ap₂ (gathered l.table) er en ∙
-            kept_here l.table l.rows l.nexts (even p) p.in-Work.s l.invariant.3.shaped (fit p) k.result i.result k.ensures i.ensures r.drops r.d r.v r.z
+            kept_here l.table l.rows l.nexts (even p) p.in-Ok.s l.invariant.3.shaped (fit p) k.result i.result k.ensures i.ensures r.drops r.d r.v r.z
             (ready p) stays;
         counts = ap (λ (t : Table). t.counts) ez;
         rows_so = ap length er ∙ l.invariant.4;
@@ -222,7 +222,7 @@ less :
 less p next met =
     let l = p.loop-why in
     let m =
-    line_moved p.args.log.now l.at.place l.at.wrote (table_of p) l.at.steps p.in-Work.s p.in-Work.behind (line p) (fit p) (stepped p) (does p)
+    line_moved p.args.log.now l.at.place l.at.wrote (table_of p) l.at.steps p.in-Ok.s p.in-Ok.behind (line p) (fit p) (stepped p) (does p)
     p.given_by.result p.given_by.ensures _ met next refl
     in
     omega (arith, m.0, m.1)
@@ -245,22 +245,22 @@ loop-why-init c =
       c.dequeues-dequeuing.ensures,
     )
 
-pub returns-in-Stop : goal.returns-in-Stop
-returns-in-Stop c =
+pub returns-in-Err : goal.returns-in-Err
+returns-in-Err c =
     let s = c.args.log.now in
     let l = c.loop-why in
     let t = gathered l.table l.rows l.nexts in
-    ends s l.at.place l.at.wrote t l.at.steps c.args.run _ _ l.invariant.1 (so_far (goal.at.returns-in-Stop c).At-loop-why)
-    (due_halts s l.at.place l.at.wrote t l.at.steps c.in-Stop.why
-    (halts s l.at.place l.at.steps _ c.in-Stop.why c.in-Stop.ensures refl))
-    (c.stopped.ensures ∙ ap (λ (z : Table). stopped_at l.at.place l.at.wrote z l.at.steps (Plain c.in-Stop.why)) c.gathered.ensures)
+    ends s l.at.place l.at.wrote t l.at.steps c.args.run _ _ l.invariant.1 (so_far (goal.at.returns-in-Err c).At-loop-why)
+    (due_halts s l.at.place l.at.wrote t l.at.steps c.in-Err.why
+    (halts s l.at.place l.at.steps _ c.in-Err.why c.in-Err.ensures refl))
+    (c.stopped.ensures ∙ ap (λ (z : Table). stopped_at l.at.place l.at.wrote z l.at.steps (Plain c.in-Err.why)) c.gathered.ensures)
 
 pub drop_away-d-requires : goal.drop_away-d-requires
 drop_away-d-requires c =
     let l = c.loop-why in
     let k = c.core_place-o in
     let i = c.unit_place-i in
-    let s = c.in-Work.s in
+    let s = c.in-Ok.s in
     let same = l.invariant.4 ∙ sym l.invariant.5 in
     let asked =
     way_asked l.table l.rows l.nexts same s l.invariant.3.shaped l.invariant.2 k.result i.result k.ensures i.ensures c.stored.result
@@ -281,101 +281,101 @@ pub line_meets-requires : goal.line_meets-requires
 line_meets-requires c =
     let p = (goal.at.line_meets-requires c).After-space-1 in
     let t = table_of p in
-    let s = c.in-Work.s in
+    let s = c.in-Ok.s in
     let rules = given_same t s (fit p) (stepped p) (does p) c.given_by.result c.given_by.ensures in
     ((s, (line p).reads), subst Small (sym rules) (given_small t s c.loop-why.invariant.3 (fit p)))
 
 -- 40, and 21
-pub returns-in-Stop-line_meets : goal.returns-in-Stop-line_meets
-returns-in-Stop-line_meets c =
-    let g = goal.at.returns-in-Stop-line_meets c in
+pub returns-in-Err-line_meets : goal.returns-in-Err-line_meets
+returns-in-Err-line_meets c =
+    let g = goal.at.returns-in-Err-line_meets c in
     let p = g.After-space-1 in
     let l = c.loop-why in
-    let why = c.in-Stop-line_meets.why in
-    line_ends c.args.log.now l.at.place l.at.wrote (table_of p) l.at.steps c.in-Work.s c.in-Work.behind (line p) (fit p) (stepped p) (does p)
-    c.given_by.result c.given_by.ensures _ c.in-Stop-line_meets.ensures c.args.run _ why l.invariant.1 (so_far g.At-loop-why) refl
-    (c.stopped-in-Stop-line_meets.ensures ∙
-    ap (λ (t : Table). stopped_at l.at.place l.at.wrote t l.at.steps why) c.gathered-in-Stop-line_meets.ensures)
+    let why = c.in-Err-line_meets.why in
+    line_ends c.args.log.now l.at.place l.at.wrote (table_of p) l.at.steps c.in-Ok.s c.in-Ok.behind (line p) (fit p) (stepped p) (does p)
+    c.given_by.result c.given_by.ensures _ c.in-Err-line_meets.ensures c.args.run _ why l.invariant.1 (so_far g.At-loop-why) refl
+    (c.stopped-in-Err-line_meets.ensures ∙
+    ap (λ (t : Table). stopped_at l.at.place l.at.wrote t l.at.steps why) c.gathered-in-Err-line_meets.ensures)
 
 pub bounds-rows-j : goal.bounds-rows-j
-bounds-rows-j c = other_in c.in-Work.s (core_of (gathered c.loop-why.table c.loop-why.rows c.loop-why.nexts) c.core_place-o.result.0) c.other_place-j.result c.other_place-j.ensures
+bounds-rows-j c = other_in c.in-Ok.s (core_of (gathered c.loop-why.table c.loop-why.rows c.loop-why.nexts) c.core_place-o.result.0) c.other_place-j.result c.other_place-j.ensures
 
 pub bounds-rows-j-then-p : goal.bounds-rows-j-then-p
-bounds-rows-j-then-p c = other_in c.in-Work.s (core_of (gathered c.loop-why.table c.loop-why.rows c.loop-why.nexts) c.core_place-o.result.0) c.other_place-j.result c.other_place-j.ensures
+bounds-rows-j-then-p c = other_in c.in-Ok.s (core_of (gathered c.loop-why.table c.loop-why.rows c.loop-why.nexts) c.core_place-o.result.0) c.other_place-j.result c.other_place-j.ensures
 
 pub bounds-nexts-j-then-p : goal.bounds-nexts-j-then-p
-bounds-nexts-j-then-p c = other_in c.in-Work.s (core_of (gathered c.loop-why.table c.loop-why.rows c.loop-why.nexts) c.core_place-o.result.0) c.other_place-j.result c.other_place-j.ensures
+bounds-nexts-j-then-p c = other_in c.in-Ok.s (core_of (gathered c.loop-why.table c.loop-why.rows c.loop-why.nexts) c.core_place-o.result.0) c.other_place-j.result c.other_place-j.ensures
 
 pub bounds-rows-j-then-b : goal.bounds-rows-j-then-b
-bounds-rows-j-then-b c = other_in c.in-Work.s (core_of (gathered c.loop-why.table c.loop-why.rows c.loop-why.nexts) c.core_place-o.result.0) c.other_place-j.result c.other_place-j.ensures
+bounds-rows-j-then-b c = other_in c.in-Ok.s (core_of (gathered c.loop-why.table c.loop-why.rows c.loop-why.nexts) c.core_place-o.result.0) c.other_place-j.result c.other_place-j.ensures
 
 pub bounds-rows-j-then-b-2 : goal.bounds-rows-j-then-b-2
-bounds-rows-j-then-b-2 c = other_in c.in-Work.s (core_of (gathered c.loop-why.table c.loop-why.rows c.loop-why.nexts) c.core_place-o.result.0) c.other_place-j.result c.other_place-j.ensures
+bounds-rows-j-then-b-2 c = other_in c.in-Ok.s (core_of (gathered c.loop-why.table c.loop-why.rows c.loop-why.nexts) c.core_place-o.result.0) c.other_place-j.result c.other_place-j.ensures
 
 pub bounds-rows-j-then-b-3 : goal.bounds-rows-j-then-b-3
-bounds-rows-j-then-b-3 c = other_in c.in-Work.s (core_of (gathered c.loop-why.table c.loop-why.rows c.loop-why.nexts) c.core_place-o.result.0) c.other_place-j.result c.other_place-j.ensures
+bounds-rows-j-then-b-3 c = other_in c.in-Ok.s (core_of (gathered c.loop-why.table c.loop-why.rows c.loop-why.nexts) c.core_place-o.result.0) c.other_place-j.result c.other_place-j.ensures
 
 pub bounds-nexts-j-then-b : goal.bounds-nexts-j-then-b
-bounds-nexts-j-then-b c = other_in c.in-Work.s (core_of (gathered c.loop-why.table c.loop-why.rows c.loop-why.nexts) c.core_place-o.result.0) c.other_place-j.result c.other_place-j.ensures
+bounds-nexts-j-then-b c = other_in c.in-Ok.s (core_of (gathered c.loop-why.table c.loop-why.rows c.loop-why.nexts) c.core_place-o.result.0) c.other_place-j.result c.other_place-j.ensures
 
 pub bounds-nexts-j-then-b-2 : goal.bounds-nexts-j-then-b-2
-bounds-nexts-j-then-b-2 c = other_in c.in-Work.s (core_of (gathered c.loop-why.table c.loop-why.rows c.loop-why.nexts) c.core_place-o.result.0) c.other_place-j.result c.other_place-j.ensures
+bounds-nexts-j-then-b-2 c = other_in c.in-Ok.s (core_of (gathered c.loop-why.table c.loop-why.rows c.loop-why.nexts) c.core_place-o.result.0) c.other_place-j.result c.other_place-j.ensures
 
 pub bounds-rows-i-after-dequeuing : goal.bounds-rows-i-after-dequeuing
-bounds-rows-i-after-dequeuing c = unit_in_lem c.in-Work.s (core_of (gathered c.loop-why.table c.loop-why.rows c.loop-why.nexts) c.core_place-o.result.0) c.unit_place-i.result c.unit_place-i.ensures
+bounds-rows-i-after-dequeuing c = unit_in_lem c.in-Ok.s (core_of (gathered c.loop-why.table c.loop-why.rows c.loop-why.nexts) c.core_place-o.result.0) c.unit_place-i.result c.unit_place-i.ensures
 
 pub bounds-rows-i-after-b : goal.bounds-rows-i-after-b
-bounds-rows-i-after-b c = unit_in_lem c.in-Work.s (core_of (gathered c.loop-why.table c.loop-why.rows c.loop-why.nexts) c.core_place-o.result.0) c.unit_place-i.result c.unit_place-i.ensures
+bounds-rows-i-after-b c = unit_in_lem c.in-Ok.s (core_of (gathered c.loop-why.table c.loop-why.rows c.loop-why.nexts) c.core_place-o.result.0) c.unit_place-i.result c.unit_place-i.ensures
 
 pub bounds-nexts-i-then-p : goal.bounds-nexts-i-then-p
-bounds-nexts-i-then-p c = unit_in_lem c.in-Work.s (core_of (gathered c.loop-why.table c.loop-why.rows c.loop-why.nexts) c.core_place-o.result.0) c.unit_place-i.result c.unit_place-i.ensures
+bounds-nexts-i-then-p c = unit_in_lem c.in-Ok.s (core_of (gathered c.loop-why.table c.loop-why.rows c.loop-why.nexts) c.core_place-o.result.0) c.unit_place-i.result c.unit_place-i.ensures
 
 pub bounds-rows-i-then-a : goal.bounds-rows-i-then-a
-bounds-rows-i-then-a c = unit_in_lem c.in-Work.s (core_of (gathered c.loop-why.table c.loop-why.rows c.loop-why.nexts) c.core_place-o.result.0) c.unit_place-i.result c.unit_place-i.ensures
+bounds-rows-i-then-a c = unit_in_lem c.in-Ok.s (core_of (gathered c.loop-why.table c.loop-why.rows c.loop-why.nexts) c.core_place-o.result.0) c.unit_place-i.result c.unit_place-i.ensures
 
 pub bounds-rows-i-then-a-2 : goal.bounds-rows-i-then-a-2
-bounds-rows-i-then-a-2 c = unit_in_lem c.in-Work.s (core_of (gathered c.loop-why.table c.loop-why.rows c.loop-why.nexts) c.core_place-o.result.0) c.unit_place-i.result c.unit_place-i.ensures
+bounds-rows-i-then-a-2 c = unit_in_lem c.in-Ok.s (core_of (gathered c.loop-why.table c.loop-why.rows c.loop-why.nexts) c.core_place-o.result.0) c.unit_place-i.result c.unit_place-i.ensures
 
 pub bounds-rows-i-then-a-3 : goal.bounds-rows-i-then-a-3
-bounds-rows-i-then-a-3 c = unit_in_lem c.in-Work.s (core_of (gathered c.loop-why.table c.loop-why.rows c.loop-why.nexts) c.core_place-o.result.0) c.unit_place-i.result c.unit_place-i.ensures
+bounds-rows-i-then-a-3 c = unit_in_lem c.in-Ok.s (core_of (gathered c.loop-why.table c.loop-why.rows c.loop-why.nexts) c.core_place-o.result.0) c.unit_place-i.result c.unit_place-i.ensures
 
 pub bounds-nexts-i-then-a : goal.bounds-nexts-i-then-a
-bounds-nexts-i-then-a c = unit_in_lem c.in-Work.s (core_of (gathered c.loop-why.table c.loop-why.rows c.loop-why.nexts) c.core_place-o.result.0) c.unit_place-i.result c.unit_place-i.ensures
+bounds-nexts-i-then-a c = unit_in_lem c.in-Ok.s (core_of (gathered c.loop-why.table c.loop-why.rows c.loop-why.nexts) c.core_place-o.result.0) c.unit_place-i.result c.unit_place-i.ensures
 
 pub bounds-nexts-i-then-a-2 : goal.bounds-nexts-i-then-a-2
-bounds-nexts-i-then-a-2 c = unit_in_lem c.in-Work.s (core_of (gathered c.loop-why.table c.loop-why.rows c.loop-why.nexts) c.core_place-o.result.0) c.unit_place-i.result c.unit_place-i.ensures
+bounds-nexts-i-then-a-2 c = unit_in_lem c.in-Ok.s (core_of (gathered c.loop-why.table c.loop-why.rows c.loop-why.nexts) c.core_place-o.result.0) c.unit_place-i.result c.unit_place-i.ensures
 
 pub bounds-rows-k-after-b : goal.bounds-rows-k-after-b
-bounds-rows-k-after-b c = core_in c.in-Work.s c.core_place-o.result c.core_place-o.ensures
+bounds-rows-k-after-b c = core_in c.in-Ok.s c.core_place-o.result c.core_place-o.ensures
 
-pub bounds-table-k-in-Agrees : goal.bounds-table-k-in-Agrees
-bounds-table-k-in-Agrees c = core_in c.in-Work.s c.core_place-o.result c.core_place-o.ensures
+pub bounds-table-k-in-Ok-line_meets : goal.bounds-table-k-in-Ok-line_meets
+bounds-table-k-in-Ok-line_meets c = core_in c.in-Ok.s c.core_place-o.result c.core_place-o.ensures
 
 pub bounds-lives-k : goal.bounds-lives-k
-bounds-lives-k c = core_in c.in-Work.s c.core_place-o.result c.core_place-o.ensures
+bounds-lives-k c = core_in c.in-Ok.s c.core_place-o.result c.core_place-o.ensures
 
 pub bounds-owns-k : goal.bounds-owns-k
-bounds-owns-k c = core_in c.in-Work.s c.core_place-o.result c.core_place-o.ensures
+bounds-owns-k c = core_in c.in-Ok.s c.core_place-o.result c.core_place-o.ensures
 
 pub bounds-rows-w : goal.bounds-rows-w
 bounds-rows-w c =
     let p = (goal.at.bounds-rows-w c).After-space-1 in
-    passed_at _ c.core_place-o.result c.passed_to-w-then-b.result (granted p).1 (core_in c.in-Work.s c.core_place-o.result c.core_place-o.ensures) c.passed_to-w-then-b.ensures
+    passed_at _ c.core_place-o.result c.passed_to-w-then-b.result (granted p).1 (core_in c.in-Ok.s c.core_place-o.result c.core_place-o.ensures) c.passed_to-w-then-b.ensures
 
 pub bounds-rows-w-then-b : goal.bounds-rows-w-then-b
 bounds-rows-w-then-b c =
     let p = (goal.at.bounds-rows-w-then-b c).After-space-1 in
-    passed_at _ c.core_place-o.result c.passed_to-w-then-b.result (granted p).1 (core_in c.in-Work.s c.core_place-o.result c.core_place-o.ensures) c.passed_to-w-then-b.ensures
+    passed_at _ c.core_place-o.result c.passed_to-w-then-b.result (granted p).1 (core_in c.in-Ok.s c.core_place-o.result c.core_place-o.ensures) c.passed_to-w-then-b.ensures
 
 pub bounds-rows-w-then-a : goal.bounds-rows-w-then-a
 bounds-rows-w-then-a c =
     let p = (goal.at.bounds-rows-w-then-a c).After-space-1 in
-    passed_at _ c.core_place-o.result c.passed_to-w-then-a.result (granted p).0 (core_in c.in-Work.s c.core_place-o.result c.core_place-o.ensures) c.passed_to-w-then-a.ensures
+    passed_at _ c.core_place-o.result c.passed_to-w-then-a.result (granted p).0 (core_in c.in-Ok.s c.core_place-o.result c.core_place-o.ensures) c.passed_to-w-then-a.ensures
 
 pub bounds-rows-w-then-a-2 : goal.bounds-rows-w-then-a-2
 bounds-rows-w-then-a-2 c =
     let p = (goal.at.bounds-rows-w-then-a-2 c).After-space-1 in
-    passed_at _ c.core_place-o.result c.passed_to-w-then-a.result (granted p).0 (core_in c.in-Work.s c.core_place-o.result c.core_place-o.ensures) c.passed_to-w-then-a.ensures
+    passed_at _ c.core_place-o.result c.passed_to-w-then-a.result (granted p).0 (core_in c.in-Ok.s c.core_place-o.result c.core_place-o.ensures) c.passed_to-w-then-a.ensures
 
 pub repicked-requires : goal.repicked-requires
 repicked-requires c =
@@ -396,13 +396,13 @@ repicked-requires-then-a c =
     ])
 
 pub loop-why-smaller : goal.loop-why-smaller
-loop-why-smaller c = less (goal.at.loop-why-smaller c).After-space-1 c.in-Agrees.next c.in-Agrees.ensures
+loop-why-smaller c = less (goal.at.loop-why-smaller c).After-space-1 c.in-Ok-line_meets.next c.in-Ok-line_meets.ensures
 
 pub loop-why-preserved : goal.loop-why-preserved
 loop-why-preserved c =
     let p = (goal.at.loop-why-preserved c).After-space-1 in
     let l = c.loop-why in
-    let s = c.in-Work.s in
+    let s = c.in-Ok.s in
     let t = table_of p in
     let z = c.if-drops-2 in
     let o = c.if-p in
@@ -411,8 +411,8 @@ loop-why-preserved c =
     let j = c.other_place-j.result in
     let x = c.plan_step-p.result in
     let n = z.table.counts.cores in
-    let unit_at : i.0 < units = unit_in_lem c.in-Work.s (core_of (gathered c.loop-why.table c.loop-why.rows c.loop-why.nexts) c.core_place-o.result.0) i c.unit_place-i.ensures in
-    let other_at : j.0 < units = other_in c.in-Work.s (core_of (gathered c.loop-why.table c.loop-why.rows c.loop-why.nexts) c.core_place-o.result.0) j c.other_place-j.ensures in
+    let unit_at : i.0 < units = unit_in_lem c.in-Ok.s (core_of (gathered c.loop-why.table c.loop-why.rows c.loop-why.nexts) c.core_place-o.result.0) i c.unit_place-i.ensures in
+    let other_at : j.0 < units = other_in c.in-Ok.s (core_of (gathered c.loop-why.table c.loop-why.rows c.loop-why.nexts) c.core_place-o.result.0) j c.other_place-j.ensures in
     let now : Left p z.table z.rows z.nexts z.lives z.owns =
     elim z.branch [
       | then-drops-2 w ↦
@@ -462,9 +462,9 @@ loop-why-preserved c =
     ap (λ (u : Table). (put_back u k i j x).table) now.so
     in (
       l.invariant.0 ∙
-          line_goes c.args.log.now l.at.place l.at.wrote t l.at.steps s c.in-Work.behind (line p) (fit p) (stepped p) (does p)
-          c.given_by.result c.given_by.ensures _ c.in-Agrees.ensures c.in-Agrees.next refl ∙
-          ap (λ (u : Table). check_call (run_at c.in-Agrees.next l.at.wrote u (l.at.steps + 1)) c.args.log.now) (sym so),
+          line_goes c.args.log.now l.at.place l.at.wrote t l.at.steps s c.in-Ok.behind (line p) (fit p) (stepped p) (does p)
+          c.given_by.result c.given_by.ensures _ c.in-Ok-line_meets.ensures c.in-Ok-line_meets.next refl ∙
+          ap (λ (u : Table). check_call (run_at c.in-Ok-line_meets.next l.at.wrote u (l.at.steps + 1)) c.args.log.now) (sym so),
       l.invariant.1,
       ap sound so ∙ subst (λ (y : Stepped). sound y.table ≡ true) (steps_so p) (keeps_sound t s l.invariant.3.shaped (fit p)).0,
       subst Held (sym so) (subst (λ (y : Stepped). Held y.table) (steps_so p) (held_step t s l.invariant.3 (fit p))),
