@@ -27,7 +27,7 @@ use Rattle.writing.specs.Claims.{Small}
 use Rattle.loglines.specs.Log.{log_most, Shown, parse_log, grants_given, given_by}
 use Rattle.loglines.specs.Parts.{part_in, rest_from, judged_in}
 use Rattle.loglines.specs.Quick.{tabs, step_text, OneDigit, StandsAt, SameBytes}
-use Rattle.logs.specs.Due.{line_in, plain_due, Reads, Follows, met_by, due_met, plain_met}
+use Rattle.logs.specs.Due.{line_in, plain_due, Reads, Follows, met_by, plain_met}
 use Rattle.logs.specs.declared.call.Rest.{Rest}
 use Rattle.logs.specs.declared.call.Behind.{Behind}
 use Rattle.logs.specs.declared.call.Behind.TheVariants.{Quick, Full}
@@ -136,11 +136,6 @@ module _ (s : List ℕ) (place : ℕ) where
   pub follows_in : (b : Behind) → Follows s place b → (r : Rest) → b ≡ Full r → (r.numbers ≤ 2) × (place ≤ r.end) × (r.end < length s)
   follows_in b line r is = let w = subst (Follows s place) is line in ranged s place w.0 r w.1
 
-  pub follows_met :
-      (b : Behind) → Follows s place b → (r : Rest) → b ≡ Full r →
-      (gs : List ℕ) (m : Met) → m ≡ met_by (judged_in (line_in s place r.end) r.numbers r.from gs) r.end → m ≡ plain_met s place gs
-  follows_met b line r is gs m f = let w = subst (Follows s place) is line in f ∙ ap (due_met s place gs) (sym w.1)
-
   -- read quickly
   module _ (b : Behind) (line : Follows s place b) (from : ℕ) (is : b ≡ Quick from) where
     reads : Follows s place (Quick from)
@@ -148,9 +143,6 @@ module _ (s : List ℕ) (place : ℕ) where
 
     stands : StandsAt s place reads.0 from
     stands = reads.1
-
-    pub from_in : from ≤ length s
-    from_in = omega (arith, stands.inside)
 
     module _
         (a : Answer) (t : Ticket) (g : Grants) (small : Small (given_by a t g)) (o m : List ℕ) (n : ℕ) (put : Puts o m 0 n (shown_bytes a t g)) (yes : Bool)
@@ -181,9 +173,6 @@ module _ (s : List ℕ) (place : ℕ) where
           ap (λ (k : ℕ). Agrees (from + k)) z ∙
           sym
           (quick_agrees s place from reads.0 stands (given_by a t g) (drop n (drop from s)) small (given_most a t g) text)
-
-      pub quick_in : from + n ≤ length s
-      quick_in = let l = length-drop from s in omega (arith, (same so).1, stands.inside)
 
 -- the space for the text
 pub shown_most : (a : Answer) (t : Ticket) (g : Grants) → length (shown_bytes a t g) ≤ 88
