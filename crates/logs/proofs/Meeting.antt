@@ -27,12 +27,12 @@ use Rattle.writing.specs.Claims.{Small}
 use Rattle.loglines.specs.Log.{log_most, Shown, parse_log, grants_given, given_by}
 use Rattle.loglines.specs.Parts.{part_in, rest_from, judged_in}
 use Rattle.loglines.specs.Quick.{tabs, step_text, OneDigit, StandsAt, SameBytes}
-use Rattle.logs.specs.Due.{line_in, plain_due, Reads, Follows, met_by, plain_met}
+use Rattle.logs.specs.Due.{plain_due, Reads, Follows, met_by, plain_met}
 use Rattle.logs.specs.declared.call.Rest.{Rest}
 use Rattle.logs.specs.declared.call.Behind.{Behind}
 use Rattle.logs.specs.declared.call.Behind.TheVariants.{Quick, Full}
 use Rattle.std.specs.Prelude.{Option, Some}
-use Rattle.logs.specs.Due.{Reading, Met, Agrees}
+use Rattle.logs.specs.Due.{Reading, Agrees}
 use Rattle.loglines.specs.Parts.{Part, Begins, Not}
 use Rattle.loglines.specs.Parts.{Judged}
 use Rattle.loglines.specs.Parts.{Agrees as AllGiven}
