@@ -17,6 +17,10 @@ use Rattle.block.specs.declared.table.Table.{Table}
 use Rattle.building.specs.Build.{build}
 use Rattle.laws.proofs.Claims.{on_sound_lem}
 use Rattle.headers.specs.Header.{read_header}
+use Rattle.headers.specs.declared.reading.BadHeader as bad_header
+use Rattle.headers.specs.declared.reading.BadHeader.TheVariants as bad_header_is
+use Rattle.stops.specs.Due.{header_stop}
+use Rattle.std.specs.Prelude.{Err}
 use Rattle.headers.specs.HeaderLine.{HeaderLine}
 use Rattle.headers.specs.HeaderLine.{Header, BadHeader as NoHeader, Unfinished as CutHeader}
 use Rattle.stops.specs.declared.run.Run.{Run}
@@ -94,6 +98,10 @@ pub begins :
 begins r s e =
     ap (λ (b : Bool). check_call (record { place = r.place; wrote = r.wrote; table = r.table; steps = r.steps; headed = b }) s) e
 
+-- a run whose header is read, stopped where it stands
+pub stands : (r : Run) (why : LogStop) → r.headed ≡ true → ◌≡◌ {A = Checked} (record { run = r; why = why }) (stopped_at r.place r.wrote r.table r.steps why)
+stands r why e = ap (λ (b : Bool). record { run = record { place = r.place; wrote = r.wrote; table = r.table; steps = r.steps; headed = b }; why = why }) e
+
 -- on a table that is not sound
 pub at_unfit :
     (r : Run) (s : List ℕ) →
@@ -101,12 +109,10 @@ pub at_unfit :
     sound r.table ≡ false →
     (why : Stop) →
     why ≡ unfit_stop s r.place r.steps →
-    (z : Checked) →
-    z ≡ stopped_at r.place r.wrote r.table r.steps (Plain why) →
-    z ≡ checked r (check_call r s)
-at_unfit r s headed not why says z is =
-    ends s r.place r.wrote r.table r.steps r z (Plain why) refl (begins r s headed)
-    (unfit_asks s r.place r.wrote r.table r.steps not ∙ ap (λ (v : Stop). inr (Plain v)) (sym says)) is
+    record { run = r; why = Plain why } ≡ checked r (check_call r s)
+at_unfit r s headed not why says =
+    ends s r.place r.wrote r.table r.steps r _ (Plain why) refl (begins r s headed)
+    (unfit_asks s r.place r.wrote r.table r.steps not ∙ ap (λ (v : Stop). inr (Plain v)) (sym says)) (stands r (Plain why) headed)
 
 -- The header's line
 
@@ -124,7 +130,7 @@ module _ (r : Run) (s : List ℕ) (unread : r.headed ≡ false) (h : HeaderLine)
   ends_there why e = sym (ap (checked r) (stop checking checking_steady desk s why (inl e)))
 
   -- 20 and 22
-  pub no_header : h ≡ NoHeader → record { run = r; why = Plain BadHeader } ≡ checked r (check_call r s)
+  no_header : h ≡ NoHeader → record { run = r; why = Plain BadHeader } ≡ checked r (check_call r s)
   no_header is = go (read_header (drop r.place s) 0) refl
     where
       go : (w : HeaderLine) → read_header (drop r.place s) 0 ≡ w → record { run = r; why = Plain BadHeader } ≡ checked r (check_call r s)
@@ -132,13 +138,17 @@ module _ (r : Run) (s : List ℕ) (unread : r.headed ≡ false) (h : HeaderLine)
       go NoHeader e = ends_there (Plain BadHeader) (asked NoHeader e)
       go CutHeader e = let f = sym is ∙ placed CutHeader e in let z : ◌≡◌ {A = ℕ} 0 1 = cc in absurd (omega arith)
 
-  pub cut_header : h ≡ CutHeader → record { run = r; why = Plain Unfinished } ≡ checked r (check_call r s)
+  cut_header : h ≡ CutHeader → record { run = r; why = Plain Unfinished } ≡ checked r (check_call r s)
   cut_header is = go (read_header (drop r.place s) 0) refl
     where
       go : (w : HeaderLine) → read_header (drop r.place s) 0 ≡ w → record { run = r; why = Plain Unfinished } ≡ checked r (check_call r s)
       go (Header c n used) e = let f = sym is ∙ placed (Header c n used) e in let z : ◌≡◌ {A = ℕ} 0 1 = cc in absurd (omega arith)
       go NoHeader e = let f = sym is ∙ placed NoHeader e in let z : ◌≡◌ {A = ℕ} 0 1 = cc in absurd (omega arith)
       go CutHeader e = ends_there (Plain Unfinished) (asked CutHeader e)
+
+  pub unheaded : (b : bad_header.BadHeader) → h ≡ Err b → record { run = r; why = Plain (header_stop b) } ≡ checked r (check_call r s)
+  unheaded bad_header_is.Malformed is = no_header is
+  unheaded bad_header_is.Unfinished is = cut_header is
 
   -- the lines behind it
   module _ (c : Counts) (n : Ticket) (next : ℕ) (is : h ≡ Header c n next) where

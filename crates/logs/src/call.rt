@@ -1,29 +1,21 @@
 // One call: lines are read, worked and held to what they show until one stops the run, which then stands at its start.
 ghost use Rattle.std.specs.Prelude.{◌≡◌, true, false, ◌+◌, ◌≤◌, ◌<◌, length, drop, IfOk};
-ghost use Rattle.building.specs.Build.{build};
 ghost use Rattle.block.specs.Sound.{sound};
-ghost use Rattle.calls.specs.Placed.{run_at};
 ghost use Rattle.writing.specs.Claims.{Small};
 ghost use Rattle.room.specs.Claims.{Held};
 ghost use Rattle.lines.specs.Reading.{ending};
 ghost use Rattle.loglines.specs.Log.{log_most, given_by};
 ghost use Rattle.loglines.specs.Parts.{part_in, judged_in};
 ghost use Rattle.logs.specs.declared.call.LogStop.TheVariants.{Plain};
-ghost use Rattle.logs.specs.Due.{line_in, end_found, part_due, plain_due, DueSays, Follows, mismatch_stop, met_by, plain_met, unfit_part, unfit_stop, stopped_at};
+ghost use Rattle.logs.specs.Due.{line_in, end_found, part_due, plain_due, DueSays, Follows, mismatch_stop, met_by, plain_met, unfit_part, unfit_stop};
 ghost use Rattle.logs.specs.Checking.{log_number, check_call, checked};
 
-use block::{Table, gathered, gives_way, nexts_of, rows_of, unit_with};
-use building::build;
-use headers::BadHeader;
+use calls::fresh_run;
 use lines::NoEnd;
 use loglines::{Given, Mismatch, Off, all_numbers, begins, held, log_end, quick_part, step_part};
-use parts::{Counts, Step, dequeues};
-use places::{core_place, other_place, unit_place};
-use plan::{Plan, plan_step};
-use refusals::{is_live, late_for, lives_of, owns_of};
-use settling::{Dropping, drop_away, passed_to, repicked, stored, with_flag};
+use parts::Step;
+use plan::Plan;
 use stops::{Run, STEPS_MOST, Stop, stop_number};
-use ticket::Ticket;
 
 // Room for the text of what the rules give for a step, whatever its numbers.
 const SHOWN_MOST: usize = 88;
@@ -185,20 +177,6 @@ fn line_meets(log: &[u8], place: usize, b: Behind, p: Given, space: &mut [u8; SH
     }
 }
 
-// The run stopped, with its table.
-fn stopped(run: Run, t: Table, why: LogStop) -> Checked
-    ensures { result ≡ stopped_at run.place run.wrote t run.steps why }
-{
-    let run = Run {
-        place: run.place,
-        wrote: run.wrote,
-        table: t,
-        steps: run.steps,
-        headed: true,
-    };
-    Checked { run, why }
-}
-
 // A line on a table that is not sound: 21, or 16.
 fn unfit(line: &[u8]) -> Stop
     ensures { result ≡ unfit_part line.now (part_in line.now) }
@@ -230,108 +208,33 @@ fn at_unfit(run: Run, log: &[u8]) -> Checked
     ensures { result ≡ checked run (check_call run log.now) }
 {
     let why = unfit_stop(log, run.place, run.steps);
-    stopped(run, run.table, LogStop::Plain(why))
+    Checked {
+        run,
+        why: LogStop::Plain(why),
+    }
 }
 
-// The lines from where the run stands, on a sound table. Its units are worked apart: what becomes of a unit is put back where it
-// stands, unit j before i, since where both are the same the second stays.
+// The lines from where the run stands, on a sound table.
 fn log_lines(run: Run, log: &[u8]) -> Checked
     requires { (run.headed ≡ true) × (sound run.table ≡ true) × Held run.table }
     ensures { result ≡ checked run (check_call run log.now) }
 {
     let mut at = run;
-    let mut table = run.table;
-    let counts = table.counts;
-    let profile = counts.profile;
-    let dequeuing = dequeues(profile);
-    let mut rows = rows_of(table);
-    let mut nexts = nexts_of(table);
-    let mut lives = lives_of(table.cores);
-    let mut owns = owns_of(table.cores);
-    let mut d = Dropping {
-        unit: unit_with(rows[0], nexts[0]),
-        cores: table.cores,
-    };
-    let mut space = [0u8; SHOWN_MOST];
+    let mut space = [0; SHOWN_MOST];
     loop {
-        let place = at.place;
-        match line_due(log, place, at.steps) {
-            Err(why) => return stopped(at, gathered(table, rows, nexts), LogStop::Plain(why)),
+        match line_due(log, at.place, at.steps) {
+            Err(why) => {
+                return Checked {
+                    run: at,
+                    why: LogStop::Plain(why),
+                };
+            }
             Ok((s, behind)) => {
-                let o = core_place(s);
-                let k = o.0 as usize;
-                let c = table.cores[k];
-                let i = unit_place(s, c).0 as usize;
-                let j = other_place(s, c).0 as usize;
-                let mut v = nexts[i];
-                let mut z = nexts[j];
-                let mut drops = false;
-                if dequeuing {
-                    let w = passed_to(stored(v), o).0 as usize;
-                    let f = table.cores[w];
-                    drops = gives_way(s, table.counts, c, rows[i][k], f);
-                    if drops {
-                        d = drop_away(table.counts.cores, unit_with(rows[i], v), table.cores);
-                        let u = d.unit;
-                        v = u.next;
-                        z = u.next;
-                    }
-                }
-                let x = plan::Part::of(rows[i][k], v);
-                let y = plan::Part::of(rows[j][k], z);
-                let late = late_for(s, c, table.counts, table.counter, &lives, &owns);
-                let p = plan_step(s, table.counts, table.counter, late, c, x, y);
-                let counter = p.counter;
-                match line_meets(log, place, behind, given_by(p), &mut space) {
-                    Err(why) => return stopped(at, gathered(table, rows, nexts), why),
+                let q = at.table.planned(s);
+                match line_meets(log, at.place, behind, given_by(q.plan), &mut space) {
+                    Err(why) => return Checked { run: at, why },
                     Ok(next) => {
-                        let a = p.first;
-                        let b = p.second;
-                        let core = p.core;
-                        if drops {
-                            let u = d.unit;
-                            let row = u.registers;
-                            let shown = u.next;
-                            let all = d.cores;
-                            rows[i] = row;
-                            nexts[i] = shown;
-                            table.cores = all;
-                            lives = lives_of(all);
-                            owns = owns_of(all);
-                        }
-                        if p.moves {
-                            let q = b.register;
-                            let z = b.next;
-                            rows[j][k] = q;
-                            nexts[j] = z;
-                            if b.repick {
-                                let m = b.winner;
-                                let w = passed_to(m, o).0 as usize;
-                                rows[j][w] = with_flag(rows[j][w], m);
-                                nexts[j] = repicked(
-                                    table.counts.cores,
-                                    unit_with(rows[j], nexts[j]),
-                                );
-                            }
-                            let r = a.register;
-                            let v = a.next;
-                            rows[i][k] = r;
-                            nexts[i] = v;
-                            if a.repick {
-                                let m = a.winner;
-                                let w = passed_to(m, o).0 as usize;
-                                rows[i][w] = with_flag(rows[i][w], m);
-                                nexts[i] = repicked(
-                                    table.counts.cores,
-                                    unit_with(rows[i], nexts[i]),
-                                );
-                            }
-                        }
-                        let own = core.own;
-                        table.cores[k] = core;
-                        lives[k] = is_live(core);
-                        owns[k] = own.0;
-                        table.counter = counter;
+                        at.table.put_back(&q);
                         at.steps += 1;
                         at.place = next;
                     }
@@ -341,40 +244,18 @@ fn log_lines(run: Run, log: &[u8]) -> Checked
     }
 }
 
-// The run on the fresh table, after the header's line.
-fn fresh_run(place: usize, wrote: usize, counts: Counts, counter: Ticket, steps: u32) -> Run
-    ensures { result ≡ run_at place wrote (build counts counter).table steps }
-{
-    let built = build(counts, counter);
-    let table = built.table;
-    Run {
-        place,
-        wrote,
-        table,
-        steps,
-        headed: true,
-    }
-}
-
 fn from_header(run: Run, log: &[u8]) -> Checked
     requires { run.headed ≡ false }
     ensures { result ≡ checked run (check_call run log.now) }
 {
-    let place = run.place;
-    let wrote = run.wrote;
-    let done = run.steps;
-    match script::read_header(log, place) {
+    match script::read_header(log, run.place) {
         Ok((counts, counter, next)) => {
-            let opened = fresh_run(next, wrote, counts, counter, done);
+            let opened = fresh_run(next, run.wrote, counts, counter, run.steps);
             log_lines(opened, log)
         }
-        Err(BadHeader::Malformed) => Checked {
+        Err(bad) => Checked {
             run,
-            why: LogStop::Plain(Stop::BadHeader),
-        },
-        Err(BadHeader::Unfinished) => Checked {
-            run,
-            why: LogStop::Plain(Stop::Unfinished),
+            why: LogStop::Plain(Stop::from(bad)),
         },
     }
 }
@@ -384,8 +265,7 @@ pub fn check(run: Run, log: &[u8]) -> Checked
     ensures { result ≡ checked run (check_call run log.now) }
 {
     if run.headed {
-        let table = run.table;
-        if table.sound() {
+        if run.table.sound() {
             log_lines(run, log)
         } else {
             at_unfit(run, log)

@@ -1,18 +1,14 @@
 // One call: lines are read, worked and answered until one stops the run, which then stands at its start.
 ghost use Rattle.std.specs.Prelude.{◌≡◌, true, false, ◌+◌, ◌≤◌, leb, length};
-ghost use Rattle.building.specs.Build.{build};
 ghost use Rattle.block.specs.Sound.{sound};
 ghost use Rattle.digits.specs.Text.{Puts};
 ghost use Rattle.expected.specs.Expected.{expected_bytes};
 ghost use Rattle.calls.specs.Call.{call, stopped, output};
-ghost use Rattle.calls.specs.Placed.{run_at, stopped_at};
 
-use building::build;
+use calls::fresh_run;
 use digits::Unwritten;
-use parts::Counts;
 use plan::Plan;
 use stops::{Run, Stop, Stopped, due};
-use ticket::Ticket;
 
 // Whether the line of a planned step fits.
 fn line_fits(len: usize, at: usize, number: u32, x: &Plan) -> bool
@@ -52,19 +48,6 @@ fn step_lines(run: Run, fit: bool, script: &[u8], out: &mut [u8]) -> Stopped
                 at.wrote = put_line(out, at.wrote, at.steps, &q.plan);
             }
         }
-    }
-}
-
-// The run on the fresh table, after the header's line.
-fn fresh_run(place: usize, wrote: usize, counts: Counts, counter: Ticket, steps: u32) -> Run
-    ensures { result ≡ run_at place wrote (build counts counter).table steps }
-{
-    Run {
-        place,
-        wrote,
-        table: build(counts, counter).table,
-        steps,
-        headed: true,
     }
 }
 

@@ -1,6 +1,5 @@
 -- The case of the header's line that was read; the table that was built is sound, and its counter has sixteen bits.
 use mathlib.Core.Path.{refl, sym, ◌∙◌, ap, subst}
-use Rattle.std.specs.Prelude.{Err}
 use native.Mathlib.Omega.{arith}
 use Rattle.block.specs.Sound.{sound}
 use Rattle.laws.proofs.Keeping.{built_sound}
@@ -8,7 +7,7 @@ use Rattle.writing.proofs.AsWritten.{header_read_is_written}
 use Rattle.stops.specs.declared.run.Run.{Run}
 use Rattle.room.specs.Claims.{Held}
 use Rattle.room.proofs.Lines.{held_built}
-use Rattle.logs.proofs.Going.{no_header, cut_header, opened_by}
+use Rattle.logs.proofs.Going.{unheaded, opened_by}
 use Rattle.logs.proofs.call.from_header.Goals as goal
 
 pub log_lines-requires : goal.log_lines-requires
@@ -27,8 +26,6 @@ returns-in-Ok c =
     opened_by c.args.run c.args.log.now c.requires _ h.ensures.0 h.counts h.counter h.next refl c.fresh_run-opened.result _
     c.fresh_run-opened.ensures c.log_lines.ensures
 
-pub returns-in-Err-Malformed : goal.returns-in-Err-Malformed
-returns-in-Err-Malformed c = no_header c.args.run c.args.log.now c.requires _ c.in-Err-Malformed.ensures.0 (ap Err c.in-Err-Malformed.field-0-is)
-
-pub returns-in-Err-Unfinished : goal.returns-in-Err-Unfinished
-returns-in-Err-Unfinished c = cut_header c.args.run c.args.log.now c.requires _ c.in-Err-Unfinished.ensures.0 (ap Err c.in-Err-Unfinished.field-0-is)
+-- 20 and 22
+pub returns-in-Err : goal.returns-in-Err
+returns-in-Err c = rw c.from.ensures (unheaded c.args.run c.args.log.now c.requires _ c.in-Err.ensures.0 c.in-Err.bad refl)
