@@ -2,9 +2,9 @@
 use Prim.Native.Nat.{ℕ, ◌≤◌, ◌<◌}
 use mathlib.Core.Bool.{Bool, true, false, cond}
 use mathlib.Core.List.{List}
-use mathlib.Core.Path.{◌≡◌, refl, sym, ◌∙◌, ap}
+use mathlib.Core.Path.{◌≡◌, refl, sym, ◌∙◌, ap, ap₂, subst}
 use Rattle.std.specs.Prelude.{Option, None, Some, set}
-use Rattle.parts.specs.Parts.{cores, units}
+use Rattle.parts.specs.Parts.{cores, units, showing}
 use Rattle.settling.specs.Line.{Within}
 use Rattle.ticket.specs.declared.kinds.CoreNo.{CoreNo}
 use Rattle.ticket.specs.declared.kinds.UnitNo.{UnitNo}
@@ -13,9 +13,14 @@ use Rattle.parts.specs.declared.kinds.Core.{Core}
 use Rattle.parts.specs.declared.kinds.LockUnit.{LockUnit}
 use Rattle.places.specs.Places.{core_place, unit_place, other_place}
 use Rattle.refusals.specs.Tickets.{asked}
-use Rattle.settling.specs.Dropping.{drop_away, showing_next}
+use Rattle.parts.specs.Answer.{whose}
+use Rattle.settling.specs.Best.{Best}
+use Rattle.settling.specs.Line.{next}
+use Rattle.settling.specs.Shown.{shown_as, shows_next_lem}
+use Rattle.settling.specs.InFront.{InOrder, present, dropped_before}
+use Rattle.settling.proofs.InFront.{in_front}
 use Rattle.settling.specs.declared.dropping.Dropping.{Dropping}
-use Rattle.plan.specs.Plan.{part_of, plan_step}
+use Rattle.plan.specs.Plan.{part, part_of, plan_step}
 use Rattle.plan.specs.declared.planning.Part.{Part}
 use Rattle.plan.specs.declared.planning.Plan.{Plan}
 use Rattle.block.specs.Table.{core_of, unit_of, Shaped}
@@ -24,13 +29,13 @@ use Rattle.block.specs.Sound.{sound}
 use Rattle.block.specs.Steps.{late, on_sound}
 use Rattle.block.specs.PutBack.{with_change, with_units, committed, put_back}
 use Rattle.block.specs.Skipping.{first_of, skips, dropped, skipped}
-use Rattle.block.specs.Planned.{dropping, read_of, without, planned}
+use Rattle.block.specs.Planned.{front_of, read_of, without, planned}
 use Rattle.block.specs.declared.planned.Planned.{Planned}
 use Rattle.block.specs.declared.stepped.Stepped.{Stepped}
 use Rattle.block.specs.declared.table.Table.{Table}
-use Rattle.block.proofs.DroppedFirst.{skips_so, skip_first, skipped_shaped, skipped_sound, skipped_once}
+use Rattle.block.proofs.DroppedFirst.{skips_so, skips_unit, skip_first, skipped_shaped, skipped_sound, skipped_once}
 use Rattle.block.proofs.DropsKept.{skipped_calm, skipped_same}
-use Rattle.block.proofs.GivingWay.{places, there, core_kept, asked_kept}
+use Rattle.block.proofs.GivingWay.{places, there, core_kept, register_kept, asked_kept}
 use Rattle.block.proofs.InPlace.{core_in, unit_in_lem, other_in, counted, granted_in, in_place}
 
 -- the core and the counter put back
@@ -67,10 +72,34 @@ module _ (t : Table) (s : Step) (shaped : Shaped t) (ok : sound t ≡ true) wher
   abbrev j : UnitNo
   j = other_place s c
 
-  -- what is read of the two places, with those in front dropped where they are, is what stands there on the table without them
+  -- what dropping asks of the unit at the first place
+  drops_there :
+      skips t s ≡ true →
+      let n = t.counts.cores in
+      (n ≤ cores) × (shows_next_lem n (unit_of t i.0) ≡ true) × InOrder n (unit_of t i.0)
+  drops_there e =
+      let n = t.counts.cores in
+      let p = places t s shaped ok (skips_so t s e) in
+      let q = skips_unit t s ok e (whose s) refl in
+      subst (λ (u : ℕ). (n ≤ cores) × (shows_next_lem n (unit_of t u) ≡ true) × InOrder n (unit_of t u)) (sym p.1) (q.0, q.2, q.3)
+
+  -- the unit at the first place shows whoever is in front
+  fronted :
+      skips t s ≡ true →
+      let n = t.counts.cores in
+      let x = unit_of t i.0 in
+      (unit_of w i.0).next ≡ shown_as (next n (present n x t.cores)) x.next.held
+  fronted e =
+      let n = t.counts.cores in
+      let is = skips_so t s e in
+      let d = drops_there e in
+      ap (λ (y : LockUnit). y.next) (there t s shaped ok is) ∙
+      sym (ap (λ (g : Dropping). g.unit.next) (in_front n (unit_of t i.0) t.cores d.2 d.1))
+
+  -- what is read of the two places, as they will be where those in front are dropped, is what stands there on the table without them
   abbrev ReadsSo : Bool → Type 0
   ReadsSo b =
-      let d = cond b (Some (showing_next t.counts.cores (drop_away t.counts.cores (unit_of t (first_of t s)) t.cores))) None in
+      let d = cond b (Some (next t.counts.cores (present t.counts.cores (unit_of t (first_of t s)) t.cores))) None in
       (read_of t i k d ≡ part_of k.0 (unit_of w i.0)) × (read_of t j k d ≡ part_of k.0 (unit_of w j.0))
 
   reads : ReadsSo (skips t s)
@@ -84,33 +113,32 @@ module _ (t : Table) (s : Step) (shaped : Shaped t) (ok : sound t ≡ true) wher
           let is = skips_so t s e in
           let p = places t s shaped ok is in
           let n = t.counts.cores in
-          let at_first : (showing_next n (drop_away n (unit_of t (first_of t s)) t.cores)).unit ≡ unit_of w i.0 =
-          ap (λ (u : ℕ). (showing_next n (drop_away n (unit_of t u) t.cores)).unit) (sym p.1) ∙ sym (there t s shaped ok is)
+          let b = next n (present n (unit_of t (first_of t s)) t.cores) in
+          let shown : shown_as b (unit_of t i.0).next.held ≡ (unit_of w i.0).next =
+          ap (λ (u : ℕ). shown_as (next n (present n (unit_of t u) t.cores)) (unit_of t i.0).next.held) (sym p.1) ∙ sym (fronted e)
           in
-          let first : part_of k.0 (showing_next n (drop_away n (unit_of t (first_of t s)) t.cores)).unit ≡ part_of k.0 (unit_of w i.0) =
-          ap (part_of k.0) at_first
-          in
-          (first, first ∙ ap (λ (u : UnitNo). part_of k.0 (unit_of w u.0)) (sym p.2))
+          let first : read_of t i k (Some b) ≡ part_of k.0 (unit_of w i.0) = ap₂ part (sym (register_kept t s shaped ok i.0)) shown in
+          (first, ap (λ (u : UnitNo). read_of t u k (Some b)) p.2 ∙ first ∙ ap (λ (u : UnitNo). part_of k.0 (unit_of w u.0)) (sym p.2))
 
   -- the plan of the core e by what it reads
-  abbrev planned_by : Core → Bool → Part → Part → Option Dropping → Planned
-  planned_by e l x y d = record { step = s; plan = plan_step s t.counts t.counter l e x y; core = k; first = unit_place s e; second = other_place s e; dropping = d }
+  abbrev planned_by : Core → Bool → Part → Part → Option Best → Planned
+  planned_by e l x y d = record { step = s; plan = plan_step s t.counts t.counter l e x y; core = k; first = unit_place s e; second = other_place s e; front = d }
 
   pub planned_so :
-      (d : Option Dropping) (x y : Part) (l : Bool) (p : Plan) →
-      d ≡ dropping t s →
+      (d : Option Best) (x y : Part) (l : Bool) (p : Plan) →
+      d ≡ front_of t s →
       x ≡ read_of t i k d →
       y ≡ read_of t j k d →
       l ≡ asked s c (late t) →
       p ≡ plan_step s t.counts t.counter l c x y →
-      record { step = s; plan = p; core = k; first = i; second = j; dropping = d } ≡ planned t s
+      record { step = s; plan = p; core = k; first = i; second = j; front = d } ≡ planned t s
   unfolding planned
   planned_so d x y l p ed ex ey el ep =
       let a = asked s (core_of w k.0) (late w) in
       let u = part_of k.0 (unit_of w i.0) in
       let v = part_of k.0 (unit_of w j.0) in
-      let g = dropping t s in
-      ap (λ (q : Plan). record { step = s; plan = q; core = k; first = i; second = j; dropping = d }) ep ∙
+      let g = front_of t s in
+      ap (λ (q : Plan). record { step = s; plan = q; core = k; first = i; second = j; front = d }) ep ∙
       ap (λ (z : Bool). planned_by c z x y d) (el ∙ asked_kept t s shaped ok) ∙
       ap (λ (z : Part). planned_by c a z y d) (ex ∙ ap (read_of t i k) ed ∙ reads.0) ∙
       ap (λ (z : Part). planned_by c a u z d) (ey ∙ ap (read_of t j k) ed ∙ reads.1) ∙
@@ -127,31 +155,35 @@ module _ (t : Table) (s : Step) (shaped : Shaped t) (ok : sound t ≡ true) wher
       sym (skip_first t s shaped ok)
 
   -- which is the table with them dropped at its unit
-  pub without_front : let q = planned t s in without t q.first q.dropping ≡ w
+  pub without_front : let q = planned t s in without t q.first q.front ≡ w
   unfolding planned
-  without_front = ap (λ (e : Core). without t (unit_place s e) (dropping t s)) (core_kept t s shaped ok) ∙ go (skips t s) refl
+  without_front = ap (λ (e : Core). without t (unit_place s e) (front_of t s)) (core_kept t s shaped ok) ∙ go (skips t s) refl
     where
       go :
           (b : Bool) → skips t s ≡ b →
-          without t i (cond b (Some (showing_next t.counts.cores (drop_away t.counts.cores (unit_of t (first_of t s)) t.cores))) None) ≡
+          without t i (cond b (Some (next t.counts.cores (present t.counts.cores (unit_of t (first_of t s)) t.cores))) None) ≡
           cond b (dropped t (first_of t s)) t
       go false e = refl
       go true e =
-          let d = showing_next t.counts.cores (drop_away t.counts.cores (unit_of t (first_of t s)) t.cores) in
-          ap (λ (u : ℕ). with_dropping t u d) (places t s shaped ok (skips_so t s e)).1
+          let n = t.counts.cores in
+          let p = places t s shaped ok (skips_so t s e) in
+          let d = drops_there e in
+          ap (λ (u : ℕ). let x = unit_of t i.0 in let b = next n (present n (unit_of t u) t.cores) in with_dropping t i.0 (dropped_before n b (showing x (shown_as b x.next.held)) t.cores)) (sym p.1) ∙
+          ap (with_dropping t i.0) (in_front n (unit_of t i.0) t.cores d.2 d.1) ∙
+          ap (dropped t) p.1
 
   -- the same at the places that the run has
   pub planned_at :
-      (k' : CoreNo) (i' j' : UnitNo) (d : Option Dropping) (x y : Part) (l : Bool) (p : Plan) →
+      (k' : CoreNo) (i' j' : UnitNo) (d : Option Best) (x y : Part) (l : Bool) (p : Plan) →
       k' ≡ core_place s →
       i' ≡ unit_place s (core_of t k'.0) →
       j' ≡ other_place s (core_of t k'.0) →
-      d ≡ dropping t s →
+      d ≡ front_of t s →
       x ≡ read_of t i' k' d →
       y ≡ read_of t j' k' d →
       l ≡ asked s (core_of t k'.0) (late t) →
       p ≡ plan_step s t.counts t.counter l (core_of t k'.0) x y →
-      record { step = s; plan = p; core = k'; first = i'; second = j'; dropping = d } ≡ planned t s
+      record { step = s; plan = p; core = k'; first = i'; second = j'; front = d } ≡ planned t s
   planned_at k' i' j' d x y l p ek ei ej ed ex ey el ep =
       rw (ej, ei, ek) (planned_so d x y l p ed (ex ∙ rw (ei, ek)) (ey ∙ rw (ej, ek)) (el ∙ rw ek) (ep ∙ rw ek))
 
@@ -167,9 +199,9 @@ module _ (t : Table) (s : Step) (shaped : Shaped t) (ok : sound t ≡ true) wher
             let g = granted_in s t.counts t.counter _ c _ _ _ refl in
             (core_in s k refl, unit_in_lem s c _ refl, other_in s c _ refl, g.0, g.1)
 
-    module _ (y : Table) (ey : y ≡ without t q.first q.dropping) where
+    module _ (y : Table) (ey : y ≡ without t q.first q.front) where
       dropped_so : y ≡ w
-      dropped_so = ey ∙ ap (λ (r : Planned). without t r.first r.dropping) is ∙ without_front
+      dropped_so = ey ∙ ap (λ (r : Planned). without t r.first r.front) is ∙ without_front
 
       pub dropped_few : y.counts.cores ≤ cores
       dropped_few = rw dropped_so (counted w (skipped_sound t s shaped ok))

@@ -3,33 +3,36 @@
 use Rattle.std.specs.Prelude.{Option, None, Some, cond}
 use Rattle.ticket.specs.declared.kinds.CoreNo.{CoreNo}
 use Rattle.ticket.specs.declared.kinds.UnitNo.{UnitNo}
+use Rattle.parts.specs.Parts.{showing}
 use Rattle.parts.specs.declared.answer.Step.{Step}
 use Rattle.places.specs.Places.{core_place, unit_place, other_place}
 use Rattle.refusals.specs.Tickets.{asked}
-use Rattle.settling.specs.Dropping.{drop_away, showing_next}
-use Rattle.settling.specs.declared.dropping.Dropping.{Dropping}
-use Rattle.plan.specs.Plan.{part_of, plan_step}
+use Rattle.settling.specs.Best.{Best}
+use Rattle.settling.specs.InFront.{present, dropped_before}
+use Rattle.settling.specs.Line.{next}
+use Rattle.settling.specs.Shown.{shown_as}
+use Rattle.plan.specs.Plan.{part, part_of, plan_step}
 use Rattle.plan.specs.declared.planning.Part.{Part}
-use Rattle.block.specs.Table.{core_of, unit_of}
+use Rattle.block.specs.Table.{core_of, unit_of, register_of}
 use Rattle.block.specs.Settle.{with_dropping}
 use Rattle.block.specs.Skipping.{first_of, skips, skipped}
 use Rattle.block.specs.Steps.{late}
 use Rattle.block.specs.declared.table.Table.{Table}
 use Rattle.block.specs.declared.planned.Planned.{Planned}
 
--- those in front who are dropped before the step
-abbrev pub dropping : Table → Step → Option Dropping
-dropping t s = cond (skips t s) (Some (showing_next t.counts.cores (drop_away t.counts.cores (unit_of t (first_of t s)) t.cores))) None
+-- who is in front once those who are away are dropped, if they are before the step
+abbrev pub front_of : Table → Step → Option Best
+front_of t s = let n = t.counts.cores in cond (skips t s) (Some (next n (present n (unit_of t (first_of t s)) t.cores))) None
 
 -- what a step of core k reads of unit u
-abbrev pub read_of : Table → UnitNo → CoreNo → Option Dropping → Part
+abbrev pub read_of : Table → UnitNo → CoreNo → Option Best → Part
 read_of t u k None = part_of k.0 (unit_of t u.0)
-read_of t u k (Some d) = part_of k.0 d.unit
+read_of t u k (Some b) = part (register_of t u.0 k.0) (shown_as b (unit_of t u.0).next.held)
 
--- the table with them dropped at unit u
-abbrev pub without : Table → UnitNo → Option Dropping → Table
+-- the table with those before it dropped there
+abbrev pub without : Table → UnitNo → Option Best → Table
 without t u None = t
-without t u (Some d) = with_dropping t u.0 d
+without t u (Some b) = let x = unit_of t u.0 in with_dropping t u.0 (dropped_before t.counts.cores b (showing x (shown_as b x.next.held)) t.cores)
 
 unfoldable pub planned : Table → Step → Planned
 planned t s =
@@ -44,5 +47,5 @@ planned t s =
       core = k;
       first = i;
       second = j;
-      dropping = dropping t s;
+      front = front_of t s;
     }

@@ -3,24 +3,23 @@
 ghost use Rattle.std.specs.Prelude.{true, ◌≡◌, ◌≤◌, ◌<◌};
 ghost use Rattle.parts.specs.Parts.{cores, units};
 ghost use Rattle.settling.specs.Line.{Within};
-ghost use Rattle.plan.specs.Plan.{part_of};
 ghost use Rattle.refusals.specs.Tickets.{asked};
-ghost use Rattle.block.specs.Table.{unit_of, Shaped};
+ghost use Rattle.block.specs.Table.{Shaped};
 ghost use Rattle.block.specs.Sound.{sound};
 ghost use Rattle.block.specs.Steps.{late, on_sound};
 ghost use Rattle.block.specs.PutBack.{with_change, with_units};
 ghost use Rattle.block.specs.Planned.{read_of, planned};
 
 use crate::table::Table;
-use parts::{Core, LockUnit, Step};
+use parts::{Core, Step};
 use places::{core_place, other_place, unit_place};
 use plan::{Part, Plan, plan_step};
 use refusals::late_for;
-use settling::{Change, Dropping, change};
+use settling::{Best, Change, change, shown_as};
 use ticket::{CoreNo, UnitNo};
 
 // A step and its plan, its core and the units at its places; and in D, if the step gives up a flag while whoever is in front of the line
-// there is away, the unit and the cores after those in front are dropped.
+// there is away, who is in front once those who are away are dropped.
 #[derive(Clone, Copy)]
 pub struct Planned {
     pub step: Step,
@@ -28,26 +27,21 @@ pub struct Planned {
     pub core: CoreNo,
     pub first: UnitNo,
     pub second: UnitNo,
-    pub dropping: Option<Dropping>,
-}
-
-// What a step of core k reads of a unit.
-fn part_in(x: &LockUnit, k: CoreNo) -> Part
-    requires { k.0 < cores }
-    ensures { result ≡ part_of k.0 x.now }
-{
-    Part::of(x.registers[k.0 as usize], x.next)
+    pub front: Option<Best>,
 }
 
 impl Table {
-    // What a step of core k reads of unit u: after the dropping, if there is one.
-    fn read(&self, u: UnitNo, k: CoreNo, dropping: &Option<Dropping>) -> Part
+    // What a step of core k reads of unit u: as it will be, if those in front are dropped.
+    fn read(&self, u: UnitNo, k: CoreNo, front: Option<Best>) -> Part
         requires { (u.0 < units) × (k.0 < cores) }
-        ensures { result ≡ read_of self.now u k dropping.now }
+        ensures { result ≡ read_of self.now u k front }
     {
-        match dropping {
-            None => part_in(&self.units[u.0 as usize], k),
-            Some(d) => part_in(&d.unit, k),
+        let i = u.0 as usize;
+        let r = self.units[i].registers[k.0 as usize];
+        let v = self.units[i].next;
+        match front {
+            None => Part::of(r, v),
+            Some(b) => Part::of(r, shown_as(b, v.held)),
         }
     }
 
@@ -68,9 +62,9 @@ impl Table {
         let c = self.cores[core.0 as usize];
         let first = unit_place(s, c);
         let second = other_place(s, c);
-        let dropping = self.dropping(s);
-        let x = self.read(first, core, &dropping);
-        let y = self.read(second, core, &dropping);
+        let front = self.front(s);
+        let x = self.read(first, core, front);
+        let y = self.read(second, core, front);
         let late = self.late(s, c);
         Planned {
             step: s,
@@ -78,7 +72,7 @@ impl Table {
             core,
             first,
             second,
-            dropping,
+            front,
         }
     }
 
@@ -106,7 +100,7 @@ impl Table {
         requires { (sound self.old ≡ true) × Shaped self.old × (q.now ≡ planned self.old q.now.step) }
         ensures { self.new ≡ (on_sound self.old q.now.step).table }
     {
-        self.drop_front(q.first, &q.dropping);
+        self.drop_front(q.first, q.front);
         self.put_units(q.core, q.first, q.second, &q.plan);
         self.cores[q.core.0 as usize] = q.plan.core;
         self.counter = q.plan.counter;

@@ -1,16 +1,16 @@
 // In D, before a core gives up its flag, those at the front of the unit's line who are away are dropped: the unit would drop
 // them when it settles, and so the step is worked as in T.
-ghost use Rattle.std.specs.Prelude.{true, ◌≡◌, ◌<◌};
-ghost use Rattle.parts.specs.Parts.{units};
+ghost use Rattle.std.specs.Prelude.{true, ◌≡◌, ◌≤◌, ◌<◌};
+ghost use Rattle.parts.specs.Parts.{cores, units};
 ghost use Rattle.block.specs.Table.{Shaped};
 ghost use Rattle.block.specs.Sound.{sound};
 ghost use Rattle.block.specs.Skipping.{gives_up, gives_way, skips};
-ghost use Rattle.block.specs.Planned.{dropping, without};
+ghost use Rattle.block.specs.Planned.{front_of, without};
 
 use crate::table::Table;
 use parts::{Core, Counts, Register, State, Step, dequeues, holds, is_away, waits, whose};
 use places::{core_place, unit_place};
-use settling::{Dropping, drop_away, passed_to, stored};
+use settling::{Best, drop_before, front, passed_to, stored};
 use ticket::UnitNo;
 
 // Whether a core in this state that the step allows gives up all that it has.
@@ -55,29 +55,31 @@ impl Table {
         )
     }
 
-    // Those in front dropped, if any are: the unit at the step's place and the cores after it.
-    pub(crate) fn dropping(&self, s: Step) -> Option<Dropping>
+    // Who is in front once those who are away are dropped, if they are.
+    pub(crate) fn front(&self, s: Step) -> Option<Best>
         requires { (sound self.now ≡ true) × Shaped self.now }
-        ensures { result ≡ dropping self.now s }
+        ensures { result ≡ front_of self.now s }
     {
-        if self.skips(s) {
+        if dequeues(self.counts.profile) && self.skips(s) {
             let k = whose(s).0 as usize;
             let u = self.cores[k].first.0 as usize;
-            Some(drop_away(self.counts.cores, self.units[u], self.cores))
+            Some(front(self.counts.cores, &self.units[u], &self.cores))
         } else {
             None
         }
     }
 
-    // The table with them dropped at unit u.
-    pub(crate) fn drop_front(&mut self, u: UnitNo, dropping: &Option<Dropping>)
-        requires { u.0 < units }
-        ensures { self.new ≡ without self.old u dropping.now }
+    // The table with those before it dropped at unit u.
+    pub(crate) fn drop_front(&mut self, u: UnitNo, front: Option<Best>)
+        requires { (u.0 < units) × (self.old.counts.cores ≤ cores) }
+        ensures { self.new ≡ without self.old u front }
     {
-        if let Some(d) = dropping {
+        if let Some(first) = front {
+            let i = u.0 as usize;
+            let d = drop_before(self.counts.cores, first, self.units[i], self.cores);
             let unit = d.unit;
             let all = d.cores;
-            self.units[u.0 as usize] = unit;
+            self.units[i] = unit;
             self.cores = all;
         }
     }

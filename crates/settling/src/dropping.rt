@@ -1,10 +1,10 @@
 // Dropping: where the oldest in line is away, that core is dropped, its ticket ends, and the next is looked at. All who are to be dropped are found at
 // once: they are away, and stand before whoever is first of those who are not.
-ghost use Rattle.std.specs.Prelude.{true, ◌≡◌, ◌≤◌};
-ghost use Rattle.parts.specs.Parts.{cores};
-ghost use Rattle.settling.specs.Shown.{shows_next_lem};
-ghost use Rattle.settling.specs.Dropping.{drop_away, showing_next};
-ghost use Rattle.settling.specs.InFront.{InOrder, unless_away, present, before, goes, dropped_before};
+ghost use Rattle.std.specs.Prelude.{◌≡◌, ◌≤◌};
+ghost use Rattle.parts.specs.Parts.{cores, showing};
+ghost use Rattle.settling.specs.Line.{next};
+ghost use Rattle.settling.specs.Shown.{shown_as};
+ghost use Rattle.settling.specs.InFront.{unless_away, present, before, goes, dropped_before};
 
 use crate::line::{Best, in_line, next_of};
 use crate::next::shown_as;
@@ -70,12 +70,19 @@ fn dropped_before(n: u16, first: Best, unit: LockUnit, all: [Core; CORES]) -> Dr
     }
 }
 
-// Seam: the unit of n cores, whose tickets in line have one order, and the cores, after those at the front of its line who are away are dropped.
-pub fn drop_away(n: u16, unit: LockUnit, all: [Core; CORES]) -> Dropping
-    requires { (n ≤ cores) × (shows_next_lem n unit ≡ true) × InOrder n unit }
-    ensures { result ≡ showing_next n (drop_away n unit all) }
+// Seam: of the first n cores, who is first in line of those who are not away.
+pub fn front(n: u16, unit: &LockUnit, all: &[Core; CORES]) -> Best
+    requires { n ≤ cores }
+    ensures { result ≡ next n (present n unit.now all.now) }
 {
-    let first = next_of(n, present(n, unit, all));
+    next_of(n, present(n, *unit, *all))
+}
+
+// Seam: the unit and the cores of n after those are dropped who are away and stand before whoever is first, whom the unit shows then.
+pub fn drop_before(n: u16, first: Best, unit: LockUnit, all: [Core; CORES]) -> Dropping
+    requires { n ≤ cores }
+    ensures { result ≡ dropped_before n first (showing unit (shown_as first unit.next.held)) all }
+{
     let x = showing(unit, shown_as(first, unit.next.held));
     dropped_before(n, first, x, all)
 }

@@ -8,8 +8,8 @@ use crate::line::{Best, next_of};
 use parts::{LockUnit, Next, next_in_line, showing};
 use ticket::{CoreNo, Ticket};
 
-// What a unit shows, by who is next in line and whether a flag is set.
-pub(crate) fn shown_as(b: Best, held: bool) -> Next
+// Seam: what a unit shows, by who is next in line and whether a flag is set.
+pub fn shown_as(b: Best, held: bool) -> Next
     ensures { result ≡ shown_as b held }
 {
     match b {

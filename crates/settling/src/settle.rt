@@ -110,40 +110,10 @@ pub fn passed_to(b: Best, k: CoreNo) -> CoreNo
     b.map_or(k, |(j, _)| j)
 }
 
-// Seam: that core's register: its flag is set, if anybody's is.
-pub fn with_flag(r: Register, b: Best) -> Register
-    ensures { result ≡ with_flag r b }
-{
-    if b.is_some() { flagged(r) } else { r }
-}
-
-// Seam: what a unit that has a flag set shows, found by the pairs.
-pub fn repicked(n: u16, x: LockUnit) -> Next
+// What a unit that has a flag set shows, found by the pairs.
+pub(crate) fn repicked(n: u16, x: LockUnit) -> Next
     requires { n ≤ cores }
     ensures { result ≡ repicked n x }
 {
     shown_as(next_of(n, x), true)
-}
-
-// The unit in which core k moved, after its flag was passed on and another is next, where that is so.
-fn resettled(n: u16, x: LockUnit, k: CoreNo, c: Change) -> LockUnit
-    requires { (n ≤ cores) × (k.0 < cores) × Within c.winner }
-    ensures { result ≡ resettled n c x }
-{
-    if c.repick {
-        let w = passed_to(c.winner, k);
-        let r = x.registers[usize::from(w.0)];
-        let y = registered(x, w, with_flag(r, c.winner));
-        showing(y, repicked(n, y))
-    } else {
-        x
-    }
-}
-
-// Seam: the unit in which core k changed so.
-pub fn changed(n: u16, x: LockUnit, k: CoreNo, c: Change) -> LockUnit
-    requires { (n ≤ cores) × (k.0 < cores) × Within c.winner }
-    ensures { result ≡ changed n k c x }
-{
-    resettled(n, showing(registered(x, k, c.register), c.next), k, c)
 }

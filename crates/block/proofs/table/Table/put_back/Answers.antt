@@ -1,8 +1,11 @@
+use Rattle.block.proofs.InPlace.{counted}
 use Rattle.block.proofs.Planning.{placed, dropped_few, put_so}
 use Rattle.block.proofs.table.Table.put_back.Goals as goal
 
 pub drop_front-requires : goal.drop_front-requires
-drop_front-requires c = let a = c.args in (placed a.self.now a.q.now.step c.requires.1 c.requires.0 a.q.now c.requires.2).1
+drop_front-requires c =
+    let a = c.args in
+    ((placed a.self.now a.q.now.step c.requires.1 c.requires.0 a.q.now c.requires.2).1, counted a.self.now c.requires.0)
 
 pub put_units-requires : goal.put_units-requires
 put_units-requires c =
