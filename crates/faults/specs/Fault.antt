@@ -66,8 +66,7 @@ step_numbers b =
     cond (eqb b 82 || eqb b 78) (Some 2) (cond (eqb b 80 || eqb b 73 || eqb b 67 || eqb b 76) (Some 1) None)
 
 abbrev pub numbers : Form → ℕ → Option ℕ
-numbers form b =
-    elim form [ Script ↦ step_numbers b | Log ↦ step_numbers b | Header ↦ cond (eqb b (script_letter T) || eqb b (script_letter D)) (Some 4) None ]
+numbers form b = elim form [ Header ↦ cond (eqb b (script_letter T) || eqb b (script_letter D)) (Some 4) None | _ ↦ step_numbers b ]
 
 -- what follows the letter; a header's letter gives its profile
 abbrev pub profile_of : ℕ → Profile
@@ -81,8 +80,7 @@ kind_of form b = elim form [ Script ↦ Step | Log ↦ Logged | Header ↦ Head 
 -- a digit d
 abbrev pub digit : Option ℕ → ℕ → Look
 digit v d =
-    let n = 10 * unwrap_or v 0 + d in
-    cond (is_some v && eqb (unwrap_or v 0) 0) (Fails LeadingZero) (cond (leb n number_most) (Digit n) (Fails TooGreat))
+    cond (is_some v && eqb (unwrap_or v 0) 0) (Fails LeadingZero) (let n = 10 * unwrap_or v 0 + d in cond (leb n number_most) (Digit n) (Fails TooGreat))
 
 -- neither a digit nor a tab: a space, a sign in front, or another byte
 abbrev pub other : Bool → ℕ → Wrong
