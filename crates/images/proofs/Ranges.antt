@@ -1,14 +1,23 @@
--- Where an image's words stand.
+-- Counts in range: where an image's words stand, and that their number is small.
 use Prim.Native.Nat.{ℕ, suc, ◌+◌, ◌*◌, ◌/◌, ◌%◌, ◌≤◌, ◌<◌}
 use mathlib.Core.Bool.{true}
 use mathlib.Core.Path.{◌≡◌, sym, ◌∙◌, ap, subst}
-use native.Mathlib.Nat.{add-zero, suc-mul, div-lt_iff_lt-mul, div-eq_of_lt, mul-add-div_right, mul-add-mod_self_right, mod-eq_of_lt, mod-lt, mul-le-mul_right}
+use native.Mathlib.Nat.{add-zero, suc-mul, div-lt_iff_lt-mul, div-eq_of_lt, mul-add-div_right, mul-add-mod_self_right, mod-eq_of_lt, mod-lt, mul-le-mul, mul-le-mul_right}
 use native.Mathlib.Omega.{arith}
-use Rattle.parts.specs.Parts.{units}
+use mir.Syntax.{w64}
+use mir.Val.{Fits}
+use Rattle.parts.specs.Parts.{cores, units}
 use Rattle.parts.specs.Range.{in_range}
 use Rattle.parts.specs.declared.kinds.Counts.{Counts}
-use Rattle.parts.proofs.Ranging.{first_few, second_few}
+use Rattle.parts.proofs.Ranging.{cores_few, first_few, second_few}
 use Rattle.images.specs.Image.{per_unit, unit_count, word_count}
+
+-- how many words the largest table has; and how many bytes a unit: four for each register, eight for the next in line
+abbrev pub words_most : ℕ
+words_most = units * (cores + 1)
+
+abbrev pub unit_bytes : ℕ
+unit_bytes = 4 * cores + 8
 
 module _ (c : Counts) (e : in_range c ≡ true) where
   pub units_few : unit_count c ≤ units
@@ -16,6 +25,19 @@ module _ (c : Counts) (e : in_range c ≡ true) where
       let first = first_few c e in
       let second = second_few c e in
       omega arith
+
+  pub few_words : word_count c ≤ words_most
+  few_words =
+      let l = cores_few c e in
+      mul-le-mul {n₂ = units} {m₂ = cores + 1} units_few (omega arith)
+
+  -- a unit within the counts has its place in the array, and its offset fits
+  module _ (u all : ℕ) (is : all ≡ unit_count c) (h : u < all) where
+    pub unit_room : u < units
+    unit_room = omega (arith, units_few)
+
+    pub unit_offset : Fits w64 (u * unit_bytes)
+    unit_offset = omega (arith, unit_room)
 
 -- what is divided by
 pub divides : (c : Counts) → 0 < per_unit c
