@@ -12,7 +12,7 @@ use Rattle.parts.proofs.Folds.{none, more}
 use Rattle.words.specs.Word.{packable}
 use Rattle.images.specs.Image.{register_at, writable}
 use Rattle.images.proofs.Good.{room_total, register_packable}
-use Rattle.images.proofs.image.write_words.Goals as goal
+use Rattle.images.proofs.image.Ranged.write_words.Goals as goal
 
 -- the register of a word within the room
 fit :

@@ -14,8 +14,8 @@ use Rattle.parts.proofs.Loops.{every_more}
 use Rattle.images.specs.Image.{unit_count, empty_units_lem, good_words, unit_of, next_agrees, read_image}
 use Rattle.images.specs.declared.image.ImageRefusal.TheVariants.{BadImage}
 use Rattle.images.proofs.Tests.{every_fails}
-use Rattle.images.proofs.image.read_units.Goals as goal
-use Rattle.images.proofs.image.read_units.Invariants.{place, first}
+use Rattle.images.proofs.image.GoodWords.read_units.Goals as goal
+use Rattle.images.proofs.image.GoodWords.read_units.Invariants.{place, first}
 
 -- one more unit
 placed : (c : Counts) (ws : List ℕ) (u : ℕ) (xs : List LockUnit) (x : LockUnit) → xs ≡ first c ws u → x ≡ unit_of c ws u → set xs u x ≡ first c ws (u + 1)

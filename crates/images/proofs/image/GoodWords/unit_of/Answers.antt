@@ -16,7 +16,7 @@ use Rattle.images.specs.Image.{per_unit, unit_count, word_count, word_at, good_w
 use Rattle.images.proofs.Ranges.{core_place_lem, word_at_lem}
 use Rattle.images.proofs.Good.{word_total, word_good}
 use Rattle.images.proofs.Places.{enter}
-use Rattle.images.proofs.image.unit_of.Goals as goal
+use Rattle.images.proofs.image.GoodWords.unit_of.Goals as goal
 
 -- where the word of core k stands
 module _ (c : Counts) (u m k : ℕ) (is : m ≡ per_unit c) (h : u < unit_count c) (l : k < c.cores) (ws : List ℕ) (good : good_words c ws ≡ true) where
@@ -47,8 +47,8 @@ turn ws at k j x y shown r so is reads has says =
 pub loop-k-init : goal.loop-k-init
 loop-k-init c = search (started, rules)
 
-pub bounds-words-at : goal.bounds-words-at
-bounds-words-at c = search (in_words, rules)
+pub bounds-self-at : goal.bounds-self-at
+bounds-self-at c = search (in_words, rules)
 
 pub unwrap-r-requires : goal.unwrap-r-requires
 unwrap-r-requires c = search (good_word, rules)

@@ -11,14 +11,14 @@ use Rattle.parts.specs.Parts.{absent_unit}
 use Rattle.images.specs.Image.{unit_count}
 use Rattle.images.proofs.Ranges.{units_few}
 use Rattle.images.proofs.Tests.{all_taken}
-use Rattle.images.proofs.image.all_show.Goals as goal
+use Rattle.images.proofs.image.Ranged.all_show.Goals as goal
 
 pub returns : goal.returns
 returns c =
-    let show = shows_next_lem c.args.c.cores in
-    let n = unit_count c.args.c in
+    let show = shows_next_lem c.args.self.counts.cores in
+    let n = unit_count c.args.self.counts in
     let long = c.well_formed.1.0.1.0.1 in
     all_from_yields_List show _ _ c.all.result c.all.ensures.ran
     (YieldsList-from_slice (take n c.args.units) (c.iter.ensures.rest ∙ ap (λ (m : ℕ). take m c.args.units) c.unit_count.ensures))
     (λ x b q k. search (rules, tests)) ∙
-    all_taken show absent_unit n c.args.units (omega (arith, units_few c.args.c c.requires))
+    all_taken show absent_unit n c.args.units (omega (arith, units_few c.args.self.counts c.args.self.ranged))
