@@ -5,6 +5,8 @@ use Rattle.block.specs.Sound.{sound}
 use Rattle.laws.proofs.Keeping.{built_sound}
 use Rattle.writing.proofs.AsWritten.{header_read_is_written}
 use Rattle.stops.specs.declared.run.Run.{Run}
+use Rattle.stops.specs.declared.run.Stop.{Stop}
+use Rattle.logs.specs.declared.call.LogStop.TheVariants.{Plain}
 use Rattle.room.specs.Claims.{Held}
 use Rattle.room.proofs.Lines.{held_built}
 use Rattle.logs.proofs.Going.{unheaded, opened_by}
@@ -28,4 +30,6 @@ returns-in-Ok c =
 
 -- 20 and 22
 pub returns-in-Err : goal.returns-in-Err
-returns-in-Err c = rw c.from.ensures (unheaded c.args.run c.args.log.now c.requires _ c.in-Err.ensures.0 c.in-Err.bad refl)
+returns-in-Err c =
+    ap (λ (w : Stop). record { run = c.args.run; why = Plain w }) c.from.ensures ∙
+    unheaded c.args.run c.args.log.now c.requires _ c.in-Err.ensures.0 c.in-Err.bad refl
