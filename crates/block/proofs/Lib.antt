@@ -5,6 +5,7 @@ pub mod Suited
 pub mod Showing
 pub mod Touched
 pub mod Allows
+pub mod Asking
 pub mod Touching
 pub mod Settling
 pub mod Standing

@@ -14,7 +14,7 @@ use crate::table::Table;
 use parts::{Core, Step};
 use places::{core_place, other_place, unit_place};
 use plan::{Part, Plan, plan_step};
-use refusals::late_for;
+use refusals::late_among;
 use settling::{Best, Change, change, shown_as};
 use ticket::{CoreNo, UnitNo};
 
@@ -46,11 +46,12 @@ impl Table {
     }
 
     // Whether a live ticket is stretched, if the verdict of a step of the core c asks it.
+    #[tactic(auto, using(crate::proofs::Asking::recent_all))]
     fn late(&self, s: Step, c: Core) -> bool
-        requires { self.now.counts.cores ≤ cores }
+        requires { (self.now.counts.cores ≤ cores) × (sound self.now ≡ true) }
         ensures { result ≡ asked s c (late self.now) }
     {
-        late_for(s, c, self.counts, self.counter, &self.cores)
+        late_among(s, c, self.counts, self.counter, &self.cores)
     }
 
     // Seam: the step planned on a table known to be sound.

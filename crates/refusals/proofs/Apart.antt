@@ -2,25 +2,31 @@
 use Prim.Native.Nat.{ℕ, zero, suc}
 use mathlib.Core.Bool.{Bool, true, false, ◌&&◌}
 use mathlib.Core.List.{List}
-use mathlib.Core.Path.{◌≡◌, refl, sym, ap₂}
-use lib.ListN.{get_or, get_or-map}
+use mathlib.Core.Path.{◌≡◌, refl, sym, ◌∙◌, ap₂}
+use lib.ListN.{length, get_or, length-map, get_or-map}
 use Rattle.ticket.specs.Order.{compare}
 use Rattle.ticket.specs.declared.kinds.Ticket.{Ticket}
 use Rattle.parts.specs.Fold.{some, up_to}
-use Rattle.parts.specs.Parts.{idle}
+use Rattle.parts.specs.Parts.{cores, idle}
 use Rattle.parts.specs.State.{is_dropped}
 use Rattle.parts.specs.declared.kinds.Core.{Core}
 use Rattle.parts.specs.declared.kinds.Counts.{Counts}
 use Rattle.parts.specs.declared.answer.Step.{Step}
 use Rattle.parts.specs.declared.answer.Step.TheVariants.{R, N, P, I, C, L}
 use Rattle.refusals.specs.Judge.{far, live, old, stretched, judge}
-use Rattle.refusals.specs.Tickets.{own_in, lives_of, owns_of, old_at, stretched_by, asked}
+use Rattle.refusals.specs.Tickets.{own_in, lives_of, owns_of, old_at, stretched_by, asks, asked}
 
-live_at : (cs : List Core) (k : ℕ) → live (get_or cs k idle) ≡ get_or (lives_of cs) k false
+pub live_at : (cs : List Core) (k : ℕ) → live (get_or cs k idle) ≡ get_or (lives_of cs) k false
 live_at cs k = sym (get_or-map live cs k idle)
 
-own_at : (cs : List Core) (k : ℕ) → own_in (get_or cs k idle) ≡ get_or (owns_of cs) k 0
+pub own_at : (cs : List Core) (k : ℕ) → own_in (get_or cs k idle) ≡ get_or (owns_of cs) k 0
 own_at cs k = sym (get_or-map own_in cs k idle)
+
+pub lives_long : (cs : List Core) → length cs ≡ cores → length (lives_of cs) ≡ cores
+lives_long cs e = length-map cs live ∙ e
+
+pub owns_long : (cs : List Core) → length cs ≡ cores → length (owns_of cs) ≡ cores
+owns_long cs e = length-map cs own_in ∙ e
 
 -- 15
 old_apart : (m : Ticket) (cs : List Core) (k : ℕ) → old_at m (lives_of cs) (owns_of cs) k ≡ old m (get_or cs k idle)
@@ -46,3 +52,10 @@ judge_asked (P k) n late c = refl
 judge_asked (I k) n late c = refl
 judge_asked (C k) n late c = rw (asked_once (is_dropped c.state) late)
 judge_asked (L k) n late c = refl
+
+module _ (s : Step) (c : Core) (b late : Bool) (says : b ≡ asks s c) where
+  pub asks_none : b ≡ false → false ≡ asked s c late
+  asks_none e = rw (sym says ∙ e)
+
+  pub asks_all : (r : Bool) → b ≡ true → r ≡ late → r ≡ asked s c late
+  asks_all r e is = rw (sym says ∙ e) is

@@ -1,3 +1,4 @@
+pub mod Far
 pub mod Refusals
 pub mod Apart
 pub mod Determined

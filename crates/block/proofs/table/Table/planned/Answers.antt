@@ -3,7 +3,7 @@ use Rattle.block.proofs.Planning.{planned_at}
 use Rattle.block.proofs.table.Table.planned.Goals as goal
 
 pub late-late-requires : goal.late-late-requires
-late-late-requires c = counted c.args.self.now c.requires.0
+late-late-requires c = (counted c.args.self.now c.requires.0, c.requires.0)
 
 pub returns : goal.returns
 returns c =
