@@ -15,6 +15,7 @@ use Rattle.settling.proofs.settle.leave.Reads as leave
 use Rattle.settling.proofs.settle.carry.Reads as carry
 use Rattle.settling.proofs.settle.stay.Reads as stay
 use Rattle.settling.proofs.settle.passed_to.Reads as passed_to
+use Rattle.settling.proofs.settle.with_flag.Reads as with-flag
 
 pub next_of_determined : Determines next_of.Post
 next_of_determined κs a x y s t p q = p ∙ sym q
@@ -45,6 +46,9 @@ stay_determined κs a x y s t p q = p ∙ sym q
 
 pub passed_to_determined : Determines passed_to.Post
 passed_to_determined κs a x y s t p q = p ∙ sym q
+
+pub with_flag_determined : Determines with-flag.Post
+with_flag_determined κs a x y s t p q = p ∙ sym q
 
 pub drop_before_determined : Determines drop-before.Post
 drop_before_determined κs a x y s t p q = p ∙ sym q

@@ -4,7 +4,7 @@ ghost use Rattle.parts.specs.Parts.{cores};
 ghost use Rattle.settling.specs.Line.{Within};
 ghost use Rattle.settling.specs.Settle.{changed};
 
-use crate::settle::{Change, repicked};
+use crate::settle::{Change, passed_to, repicked, with_flag};
 use parts::LockUnit;
 use ticket::CoreNo;
 
@@ -16,9 +16,8 @@ pub fn change(x: &mut LockUnit, n: u16, k: CoreNo, c: Change)
     x.registers[k.0 as usize] = c.register;
     x.next = c.next;
     if c.repick {
-        if let Some((w, _)) = c.winner {
-            x.registers[w.0 as usize].flag = true;
-        }
+        let w = passed_to(c.winner, k).0 as usize;
+        x.registers[w] = with_flag(x.registers[w], c.winner);
         x.next = repicked(n, *x);
     }
 }

@@ -2,8 +2,8 @@
 // Only the registers of the first n cores are looked at: those of a sound table.
 //
 // Seams: `next_of`, `next_shown`, `shown` and `shows_next`, by the registers; `stored`, `stay`, `enter`, `leave` and `carry`, by what a
-// unit shows, for the effect and the plan of a step; `change`, for putting that back; `shown_as`, `passed_to`, `front` and `drop_before`, for a
-// unit that is to settle while some in line are away.
+// unit shows, for the effect and the plan of a step; `change`, for putting that back; `passed_to` and `with_flag`, for passing a flag on;
+// `shown_as`, `front` and `drop_before`, for a unit that is to settle while some in line are away.
 #![tactic(auto)]
 
 mod changing;
@@ -17,4 +17,4 @@ pub use changing::change;
 pub use dropping::{Dropping, drop_before, front};
 pub use line::{Best, next_of, stored};
 pub use next::{next_shown, shown, shown_as, shows_next};
-pub use settle::{Change, carry, enter, leave, passed_to, stay};
+pub use settle::{Change, carry, enter, leave, passed_to, stay, with_flag};

@@ -4,7 +4,7 @@
 ghost use Rattle.std.specs.Prelude.{◌≡◌, ◌≤◌, ◌<◌};
 ghost use Rattle.parts.specs.Parts.{cores};
 ghost use Rattle.settling.specs.Line.{Within};
-ghost use Rattle.settling.specs.Settle.{becomes, stay, compared, is_next, enter, passed, leave, carry, passed_to_lem, with_flag, repicked, resettled, changed};
+ghost use Rattle.settling.specs.Settle.{becomes, stay, compared, is_next, enter, passed, leave, carry, passed_to_lem, with_flag, repicked};
 
 use crate::line::{Best, next_of, stored};
 use crate::next::shown_as;
@@ -108,6 +108,16 @@ pub fn passed_to(b: Best, k: CoreNo) -> CoreNo
     ensures { result ≡ passed_to_lem b k }
 {
     b.map_or(k, |(j, _)| j)
+}
+
+// Seam: that core's register: its flag is set, if anybody's is.
+pub fn with_flag(r: Register, b: Best) -> Register
+    ensures { result ≡ with_flag r b }
+{
+    match b {
+        None => r,
+        Some(_) => flagged(r),
+    }
 }
 
 // What a unit that has a flag set shows, found by the pairs.
