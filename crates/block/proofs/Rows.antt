@@ -1,11 +1,11 @@
--- The units of a table as a run holds them, a row of registers for each unit and what each shows: a changed register of a row is the changed
+-- The units of a table kept apart from it, a row of registers for each unit and what each shows: a changed register of a row is the changed
 -- register of its unit, and the flag that is passed on and the next in line that is found by the pairs are those of the unit.
 use Prim.Native.Nat.{ℕ, zero, suc, ◌<◌}
 use mathlib.Core.Bool.{true, false}
 use mathlib.Core.List.{List, [], ◌∷◌, map}
 use mathlib.Core.Path.{◌≡◌, refl, sym, ◌∙◌, ap, ap₂}
 use native.Mathlib.Omega.{arith}
-use lib.ListN.{length, get_or, set, length-set, length-map}
+use lib.ListN.{length, get_or, set, length-set, length-map, get_or-map}
 use lib.Seq.{get_or-set_same, set-set}
 use Rattle.ticket.specs.declared.kinds.CoreNo.{CoreNo}
 use Rattle.ticket.specs.declared.kinds.UnitNo.{UnitNo}
@@ -24,6 +24,12 @@ use Rattle.block.specs.PutBack.{changed_at, with_units, put_back}
 use Rattle.block.specs.declared.table.Table.{Table}
 
 -- Taking apart
+
+pub row_of : (us : List LockUnit) (i : ℕ) → (get_or us i absent_unit).registers ≡ get_or (map registers_in us) i []
+row_of us i = sym (get_or-map registers_in us i absent_unit)
+
+pub next_of : (us : List LockUnit) (i : ℕ) → (get_or us i absent_unit).next ≡ get_or (map next_in us) i nobody
+next_of us i = sym (get_or-map next_in us i absent_unit)
 
 pub rows_long : (t : Table) → length t.units ≡ units → length (rows_of t) ≡ units
 rows_long t e = length-map t.units registers_in ∙ e

@@ -7,7 +7,7 @@ use lib.ListN.{length, get_or, set, length-set}
 use Rattle.parts.specs.Parts.{cores, units, blank, nobody, absent_unit}
 use Rattle.parts.specs.declared.kinds.Register.{Register}
 use Rattle.parts.specs.declared.kinds.LockUnit.{LockUnit}
-use Rattle.settling.specs.Line.{flags}
+use Rattle.settling.specs.Line.{flags, next}
 use Rattle.settling.specs.Shown.{shown, shows_next_lem}
 use Rattle.block.specs.Table.{core_of, unit_of, register_of, Shaped}
 use Rattle.block.specs.Settle.{show}
@@ -41,6 +41,9 @@ module _ (t : Table) (u : ℕ) where
 
   pub show_flags : (v : ℕ) → flags cores (unit_of (show t u) v) ≡ flags cores (unit_of t v)
   show_flags v = ap (λ (l : List Register). flags cores (with_registers l)) (show_registers v)
+
+  pub show_next : (v : ℕ) → next cores (unit_of (show t u) v) ≡ next cores (unit_of t v)
+  show_next v = ap (λ (l : List Register). next cores (with_registers l)) (show_registers v)
 
   pub show_one_flag : (v : ℕ) → S.one_flag (unit_of (show t u) v) ≡ S.one_flag (unit_of t v)
   show_one_flag v = ap (λ (l : List Register). S.one_flag (with_registers l)) (show_registers v)

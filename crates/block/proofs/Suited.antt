@@ -106,6 +106,9 @@ unmarked_T Dropped s = refl
 pub undropped_in_T : (p : Profile) (z : State) → p ≡ T → suits p z ≡ true → is_dropped z ≡ false
 undropped_in_T p z e s = undropped_T z (subst (λ (q : Profile). suits q z ≡ true) e s)
 
+pub unmarked_in_T : (p : Profile) (z : State) → p ≡ T → suits p z ≡ true → is_marked z ≡ false
+unmarked_in_T p z e s = unmarked_T z (subst (λ (q : Profile). suits q z ≡ true) e s)
+
 -- nor is anybody where somebody has a second unit
 pub two_undropped : (p : Profile) (y z : State) → suits p y ≡ true → two_stage_lem y ≡ true → suits p z ≡ true → is_dropped z ≡ false
 two_undropped p y z s e = undropped_in_T p z (two_in_T p y s e)
@@ -114,6 +117,10 @@ two_undropped p y z s e = undropped_in_T p z (two_in_T p y s e)
 pub marked_in_D : (p : Profile) (z : State) → z ≡ Marked → suits p z ≡ true → p ≡ D
 marked_in_D T z e s = absurd (clash (ap is_marked e) (unmarked_T z s))
 marked_in_D D z e s = refl
+
+pub dropped_in_D : (p : Profile) (z : State) → z ≡ Dropped → suits p z ≡ true → p ≡ D
+dropped_in_D T z e s = absurd (clash (ap is_dropped e) (undropped_T z s))
+dropped_in_D D z e s = refl
 
 pub away_in_T : (p : Profile) (z : State) → z ≡ Away → suits p z ≡ true → p ≡ T
 away_in_T T z e s = refl

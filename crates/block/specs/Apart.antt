@@ -1,4 +1,4 @@
--- Detail: a table's units taken apart, as a run holds them: a list of registers for each unit, and what each unit shows.
+-- Detail: a table's units kept apart from it: a list of registers for each unit, and what each unit shows.
 use Rattle.std.specs.Prelude.{List, [], ◌∷◌, map}
 use Rattle.parts.specs.declared.kinds.Register.{Register}
 use Rattle.parts.specs.declared.kinds.Next.{Next}

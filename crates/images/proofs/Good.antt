@@ -1,8 +1,8 @@
 -- What the tests of an image say: of the number of words, of each word, of each unit's next in line, and of each register that is written.
 use Prim.Native.Nat.{ℕ, ◌+◌, ◌*◌, ◌<◌}
-use mathlib.Core.Bool.{Bool, true, ◌&&◌, not}
+use mathlib.Core.Bool.{Bool, true, false, ◌&&◌, not}
 use mathlib.Core.List.{List}
-use mathlib.Core.Path.{◌≡◌, refl}
+use mathlib.Core.Path.{◌≡◌, refl, ap}
 use lib.Dec.{eqb}
 use lib.ListN.{length}
 use borrow.Author.Tests.{eqb-true}
@@ -66,3 +66,11 @@ waiter_packable (Won k t) held = refl
 
 pub next_packable : (n : ℕ) (x : LockUnit) → packable (waiter (next_of n x)) ≡ true
 next_packable n x = waiter_packable (next n x) (not (eqb (flags n x) 0))
+
+-- a test of as many as there are, where there are as many as there should be
+pub counted : (p : ℕ → Bool) (m n : ℕ) → (eqb m n && every p m) ≡ (eqb m n && every p n)
+counted p m n = go (eqb m n) refl
+  where
+    go : (b : Bool) → eqb m n ≡ b → (b && every p m) ≡ (b && every p n)
+    go true e = ap (every p) (eqb-true m n e)
+    go false e = refl

@@ -75,3 +75,10 @@ module _ (c : Counts) (u k : ℕ) (l : k < per_unit c) where
 
   pub word_place : (u * per_unit c + k) % per_unit c ≡ k
   word_place = mul-add-mod_self_right u (per_unit c) k ∙ mod-eq_of_lt l
+
+-- the number of words fits a usize, whatever the counts
+pub count_fits : (a b k : ℕ) → a < 65536 → b < 65536 → k ≤ 65536 → (a + b) * k < 8589934592
+count_fits a b k h l m =
+    let n : (a + b) * k ≤ 131070 * 65536 =
+    mul-le-mul {n₂ = 131070} {m₂ = 65536} (omega arith) (omega arith) in
+    omega arith

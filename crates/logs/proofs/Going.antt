@@ -130,7 +130,7 @@ module _ (r : Run) (s : List ℕ) (unread : r.headed ≡ false) (h : HeaderLine)
   ends_there why e = sym (ap (checked r) (stop checking checking_steady desk s why (inl e)))
 
   -- 20 and 22
-  no_header : h ≡ NoHeader → record { run = r; why = Plain BadHeader } ≡ checked r (check_call r s)
+  pub no_header : h ≡ NoHeader → record { run = r; why = Plain BadHeader } ≡ checked r (check_call r s)
   no_header is = go (read_header (drop r.place s) 0) refl
     where
       go : (w : HeaderLine) → read_header (drop r.place s) 0 ≡ w → record { run = r; why = Plain BadHeader } ≡ checked r (check_call r s)
@@ -138,7 +138,7 @@ module _ (r : Run) (s : List ℕ) (unread : r.headed ≡ false) (h : HeaderLine)
       go NoHeader e = ends_there (Plain BadHeader) (asked NoHeader e)
       go CutHeader e = let f = sym is ∙ placed CutHeader e in let z : ◌≡◌ {A = ℕ} 0 1 = cc in absurd (omega arith)
 
-  cut_header : h ≡ CutHeader → record { run = r; why = Plain Unfinished } ≡ checked r (check_call r s)
+  pub cut_header : h ≡ CutHeader → record { run = r; why = Plain Unfinished } ≡ checked r (check_call r s)
   cut_header is = go (read_header (drop r.place s) 0) refl
     where
       go : (w : HeaderLine) → read_header (drop r.place s) 0 ≡ w → record { run = r; why = Plain Unfinished } ≡ checked r (check_call r s)

@@ -68,7 +68,7 @@ module _ (s : List ℕ) (place : ℕ) where
   ends_on = sym (ap (λ (k : ℕ). ending log_most k left) (add-zero place)) ∙ ending_on_lem place log_most 0 left
 
   -- a line that ends does so within the log
-  ends_within : (e : ℕ) → ending log_most place left ≡ At e → (place ≤ e) × (e < length s)
+  pub ends_within : (e : ℕ) → ending log_most place left ≡ At e → (place ≤ e) × (e < length s)
   ends_within e is = let w = found log_most place e left is in let l = length-drop place s in (w.0, omega (arith, w.0, w.1))
 
   -- as `log_end` found it

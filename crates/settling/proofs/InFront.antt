@@ -282,6 +282,9 @@ module _ (cs : List Core) (x₀ : LockUnit) where
       by true = refl
       by false = set-get_or x.registers k blank
 
+  pub present_last : (n k : ℕ) (x : LockUnit) → x ≡ present k x₀ cs → k ≤ n → n ≤ k → x ≡ present n x₀ cs
+  present_last n k x so low high = so ∙ ap (λ (i : ℕ). present i x₀ cs) (let z : k ≡ n = omega arith in z)
+
 module _ (b : Best) (x₀ : LockUnit) (cs₀ : List Core) where
   abbrev gone_registers : ℕ → List Register → List Register
   gone_registers k m = cond (goes_at b x₀ cs₀ k) (set m k blank) m
@@ -291,6 +294,9 @@ module _ (b : Best) (x₀ : LockUnit) (cs₀ : List Core) where
 
   pub before_first : dropping x₀ cs₀ ≡ dropped_before 0 b x₀ cs₀
   before_first = ap₂ (λ (l : List Register). dropping (with_registers x₀ l)) (fold-none gone_registers x₀.registers) (fold-none gone_cores cs₀)
+
+  pub before_last : (n k : ℕ) (x : LockUnit) (cs : List Core) → dropping x cs ≡ dropped_before k b x₀ cs₀ → k ≤ n → n ≤ k → dropping x cs ≡ dropped_before n b x₀ cs₀
+  before_last n k x cs so low high = so ∙ ap (λ (i : ℕ). dropped_before i b x₀ cs₀) (let z : k ≡ n = omega arith in z)
 
   module _ (k : ℕ) (x : LockUnit) (cs : List Core) (so : dropping x cs ≡ dropped_before k b x₀ cs₀) (g : Bool) (is : g ≡ goes b (get_or cs k idle) (register_in x k)) where
     registers_so : x.registers ≡ changed_to (goes_at b x₀ cs₀) (λ (k : ℕ). blank) k x₀.registers

@@ -144,6 +144,10 @@ module _ (x : LockUnit) where
           before i l q (inl f) = absurd (clash (ap stood (sym f) ∙ q) e)
           before i l q (inr d) = s.place i (omega arith) q
 
+  -- there are no more places than cores
+  pub few_lined : (n c : ℕ) → n ≤ cores → c ≡ (lined n x).count → c ≤ n
+  few_lined n c few e = let m = count_most stood n in let q = (lined_is n few).number in omega arith
+
   -- one more core
   pub lined_more : (n : ℕ) (w now : Line) → w ≡ lined n x → now ≡ turn n w → now ≡ lined (n + 1) x
   lined_more n w now so is = more turn n nobody_lined w now so is

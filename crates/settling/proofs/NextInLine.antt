@@ -37,22 +37,37 @@ use Rattle.settling.proofs.Picking.{next_won, next_oldest, next_over, next_withi
 
 -- Units with the same registers
 
-module _ (n : ℕ) (x y : LockUnit) (alike : (j : ℕ) → j < n → register_in x j ≡ register_in y j) where
-  oldest_cong : (k : ℕ) → k < n → oldest n x k ≡ oldest n y k
-  oldest_cong k h =
-      ap₂ ◌&&◌ (ap in_line (alike k h))
-      (every_cong (λ (j : ℕ). eqb j k || not (in_line (register_in x j)) || older x k j)
-      (λ (j : ℕ). eqb j k || not (in_line (register_in y j)) || older y k j) n
-      (λ j l. ap₂ (λ (r q : Register). eqb j k || not (in_line r) || is_older (compare q.ticket.0 r.ticket.0)) (alike j l) (alike k h)))
+module _ (n : ℕ) (x y : LockUnit) where
+  module _ (alike : (j : ℕ) → j < n → register_in x j ≡ register_in y j) where
+    oldest_cong : (k : ℕ) → k < n → oldest n x k ≡ oldest n y k
+    oldest_cong k h =
+        ap₂ ◌&&◌ (ap in_line (alike k h))
+        (every_cong (λ (j : ℕ). eqb j k || not (in_line (register_in x j)) || older x k j)
+        (λ (j : ℕ). eqb j k || not (in_line (register_in y j)) || older y k j) n
+        (λ j l. ap₂ (λ (r q : Register). eqb j k || not (in_line r) || is_older (compare q.ticket.0 r.ticket.0)) (alike j l) (alike k h)))
 
-  pub next_cong : next n x ≡ next n y
-  next_cong =
-      up_to_cong (chosen x (oldest n x)) (chosen y (oldest n y)) n Nobody
-      (λ k h b. ap₂ (λ (o : Bool) (r : Register). cond o (Won (core_no k) r.ticket) b) (oldest_cong k h) (alike k h))
+    pub next_cong : next n x ≡ next n y
+    next_cong =
+        up_to_cong (chosen x (oldest n x)) (chosen y (oldest n y)) n Nobody
+        (λ k h b. ap₂ (λ (o : Bool) (r : Register). cond o (Won (core_no k) r.ticket) b) (oldest_cong k h) (alike k h))
 
-  pub flags_cong : flags n x ≡ flags n y
-  flags_cong =
-      count_cong (λ (k : ℕ). (register_in x k).flag) (λ (k : ℕ). (register_in y k).flag) n (λ k h. ap (λ (r : Register). r.flag) (alike k h))
+    pub flags_cong : flags n x ≡ flags n y
+    flags_cong =
+        count_cong (λ (k : ℕ). (register_in x k).flag) (λ (k : ℕ). (register_in y k).flag) n (λ k h. ap (λ (r : Register). r.flag) (alike k h))
+
+  module _ (alike : x.registers ≡ y.registers) where
+    pub next_registers : next n x ≡ next n y
+    next_registers = ap (λ (l : List Register). next n (record { registers = l; next = x.next })) alike
+
+    pub flags_registers : flags n x ≡ flags n y
+    flags_registers = ap (λ (l : List Register). flags n (record { registers = l; next = x.next })) alike
+
+-- whatever a unit shows, its registers are what they were
+pub next_showing : (n : ℕ) (x : LockUnit) (v : Next) → next n (showing x v) ≡ next n x
+next_showing n x v = refl
+
+pub shown_showing : (n : ℕ) (x : LockUnit) (v : Next) → shown n (showing x v) ≡ shown n x
+shown_showing n x v = refl
 
 -- What is the same
 
@@ -94,11 +109,17 @@ same_self v =
     (and_both (and_both (eq-eqb v.ticket.0 v.ticket.0 refl) (eq-eqb v.core.0 v.core.0 refl)) (agree_self v.valid))
     (agree_self v.held)
 
+pub is_same : (v w : Next) → v ≡ w → same v w ≡ true
+is_same v w e = ap (same v) (sym e) ∙ same_self v
+
 -- A unit that shows its next in line
 
 module _ (n : ℕ) (x : LockUnit) where
   pub shown_shows : shows_next_lem n (shown n x) ≡ true
   shown_shows = same_self (next_of n x)
+
+  pub is_shown : shown n x ≡ x → shows_next_lem n x ≡ true
+  is_shown e = is_same x.next (next_of n x) (ap (λ (z : LockUnit). z.next) (sym e))
 
   module _ (shows : shows_next_lem n x ≡ true) where
     pub stores : x.next ≡ next_of n x

@@ -238,10 +238,10 @@ module _ (r : Run) (s out : List ℕ) (unread : r.headed ≡ false) (h : HeaderL
       let z = stop r out s why e in (sym (ap stopped z), sym (ap output z))
 
   -- 20 and 22
-  no_header : h ≡ NoHeader → (record { run = r; why = BadHeader } ≡ stopped (call r s out)) × (out ≡ output (call r s out))
+  pub no_header : h ≡ NoHeader → (record { run = r; why = BadHeader } ≡ stopped (call r s out)) × (out ≡ output (call r s out))
   no_header is = ended BadHeader (opens NoHeader is)
 
-  cut_header : h ≡ CutHeader → (record { run = r; why = Unfinished } ≡ stopped (call r s out)) × (out ≡ output (call r s out))
+  pub cut_header : h ≡ CutHeader → (record { run = r; why = Unfinished } ≡ stopped (call r s out)) × (out ≡ output (call r s out))
   cut_header is = ended Unfinished (opens CutHeader is)
 
   -- by what stands there

@@ -1,14 +1,14 @@
 -- Writing into an output, with more room after it, twice in a row, and from its start. Each by where the seams
 -- of `pasted` lie.
 use Prim.Native.Nat.{ℕ, ◌+◌, ◌≤◌}
-use mathlib.Core.Bool.{true}
+use mathlib.Core.Bool.{Bool, true, false}
 use mathlib.Core.List.{List, [], ◌++◌, append_assoc}
-use mathlib.Core.Path.{◌≡◌, sym, ◌∙◌, ap}
+use mathlib.Core.Path.{◌≡◌, refl, sym, ◌∙◌, ap}
 use native.Mathlib.Nat.{add-zero}
 use native.Mathlib.Omega.{arith}
 use lib.ListN.{length, take, drop, length-append, length-drop, take-append-drop}
-use lib.Seq.{drop-append-le, take-append-le, take_at, drop_at, drop-drop, length-take-le}
-use borrow.Author.Tests.{leb-true, le-leb}
+use lib.Seq.{drop-append-le, drop-append-add, take-append-le, take-append-add, take_at, drop_at, drop-drop, length-take-le}
+use borrow.Author.Tests.{leb-true, leb-false, le-leb, lt-leb}
 use Rattle.digits.specs.Text.{pasted}
 use Rattle.digits.specs.Room.{fits}
 
@@ -28,6 +28,27 @@ module _ (out room : List ℕ) (at : ℕ) (xs : List ℕ) where
   pasted_more h =
       rw (take-append-le at out room (omega arith), drop-append-le (at + length xs) out room h)
       (simp append_assoc)
+
+-- bytes before the output
+
+module _ (front out : List ℕ) (at : ℕ) (xs : List ℕ) where
+  pub fits_on : fits (front ++ out) (length front + at) xs ≡ fits out at xs
+  fits_on = go (fits out at xs) refl
+    where
+      go : (t : Bool) → fits out at xs ≡ t → fits (front ++ out) (length front + at) xs ≡ t
+      go true e =
+          let h = leb-true (at + length xs) (length out) e in
+          let l = length-append front out in
+          le-leb (length front + at + length xs) (length (front ++ out)) (omega arith)
+      go false e =
+          let h = leb-false (at + length xs) (length out) e in
+          let l = length-append front out in
+          lt-leb (length front + at + length xs) (length (front ++ out)) (omega arith)
+
+  pub pasted_on : pasted (front ++ out) (length front + at) xs ≡ front ++ pasted out at xs
+  pasted_on =
+      let z : length front + at + length xs ≡ length front + (at + length xs) = omega arith in
+      rw (take-append-add front out at, z, drop-append-add front out (at + length xs)) (append_assoc front (take at out) _)
 
 -- nothing written
 

@@ -26,13 +26,20 @@ module _ (w : ℕ) where
   pub unpack_refuses : is_good w ≡ false → unpack w ≡ Bad
   unpack_refuses e = rw e
 
-  -- a word that shows a register is good, and the register that it shows is its own
+  -- a word that shows a register is good, a refused one is not, and the register that it shows is its own
   pub shown_good : (r : Register) → unpack w ≡ Shown r → is_good w ≡ true
   shown_good r shown = go (is_good w) refl
     where
       go : (b : Bool) → is_good w ≡ b → is_good w ≡ true
       go true e = e
       go false e = let none = unpack_refuses e in cc
+
+  pub refused_bad : unpack w ≡ Bad → is_good w ≡ false
+  refused_bad none = go (is_good w) refl
+    where
+      go : (b : Bool) → is_good w ≡ b → is_good w ≡ false
+      go true e = let own = unpacks e in cc
+      go false e = e
 
   pub shown_own : (r : Register) → unpack w ≡ Shown r → r ≡ register_of w
   shown_own r shown = let own = unpacks (shown_good r shown) in cc
