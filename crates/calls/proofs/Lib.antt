@@ -3,3 +3,4 @@ pub mod Script
 pub mod Asked
 pub mod Placed
 pub mod Columns
+pub mod Determined
