@@ -16,7 +16,7 @@ fn main(rt: HostRuntime) {
         rt,
         Text::Script,
         &mut input,
-        |run, piece| Some(work(run, piece, piece.len(), &mut output)),
+        |run, piece, have| Some(work(run, piece, have, &mut output)),
         |run, why, piece| last(rt, run, why, piece),
     );
 }

@@ -7,7 +7,7 @@
 mod off;
 
 use crate::off::disagree;
-use console::{Text, every_turn, explain, line_number, say_unwritten};
+use console::{Text, every_turn, explain, line_number, say_unwritten, within};
 use logs::{LogStop, check, log_number};
 use stops::{Run, Stop, Stopped, stop_number};
 
@@ -17,7 +17,7 @@ fn main(rt: HostRuntime) {
         rt,
         Text::Log,
         &mut input,
-        |run, piece| checked(rt, run, piece),
+        |run, piece, have| checked(rt, run, &piece[..within(have, piece)]),
         |run, why, piece| last(rt, run, why, piece),
     );
 }

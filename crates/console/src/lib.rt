@@ -44,7 +44,7 @@ pub fn begun() -> Progress {
 // lines of so many bytes as the longest, so the turns are never used up.
 pub fn every_turn<W, T>(rt: HostRuntime, text: Text, input: &mut [u8], mut work: W, mut tell: T)
 where
-    W: FnMut(Run, &[u8]) -> Option<Stopped>,
+    W: FnMut(Run, &[u8], usize) -> Option<Stopped>,
     T: FnMut(Run, Stop, &[u8]),
     requires works { W.IsAlwaysCallable work }
     requires tells { T.IsAlwaysCallable tell }
@@ -54,11 +54,11 @@ where
         let Progress::On(run, have) = now else {
             return;
         };
-        let n = within(have, input);
         now = Progress::Ended;
-        if let Some(s) = work(run, &input[..n]) {
+        if let Some(s) = work(run, input, have) {
             now = follow(rt, s.run, have, s.why, text, input);
             if let Progress::Over(run) = now {
+                let n = within(have, input);
                 tell(run, s.why, &input[..n]);
             }
         }

@@ -15,14 +15,20 @@ fn main(rt: HostRuntime) {
         rt,
         Text::Script,
         &mut input,
-        |run, piece| worked(rt, run, piece, &mut output),
+        |run, piece, have| worked(rt, run, piece, have, &mut output),
         |run, why, piece| last(rt, run, why, piece),
     );
 }
 
 // One call, whose answers go to standard output, if they can.
-fn worked(rt: HostRuntime, run: Run, piece: &[u8], output: &mut [u8]) -> Option<Stopped> {
-    let s = work(run, piece, piece.len(), output);
+fn worked(
+    rt: HostRuntime,
+    run: Run,
+    piece: &[u8],
+    have: usize,
+    output: &mut [u8],
+) -> Option<Stopped> {
+    let s = work(run, piece, have, output);
     let n = within(s.run.wrote, output);
     if rt.write_all(&output[..n]).is_err() {
         say_unwritten(rt.stderr());
