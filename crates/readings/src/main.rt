@@ -9,7 +9,7 @@ use headers::BadHeader;
 use lines::BadLine;
 use parts::{Counts, Profile, Register, Step};
 use std::io::Stdout;
-use ticket::Ticket;
+use ticket::{CoreNo, Ticket, UnitNo};
 
 fn main(rt: HostRuntime) {
     let mut buf = [0; 65536];
@@ -40,28 +40,36 @@ fn case(out: Stdout, kind: u8, s: &[u8]) {
 fn step(out: Stdout, s: &[u8]) {
     match script::read_step(s, 0) {
         Ok(Some((x, next))) => step_line(out, x, next),
-        Ok(None) => say(out, "finished"),
-        Err(BadLine::Malformed) => say(out, "21"),
-        Err(BadLine::Unfinished) => say(out, "22"),
+        Ok(None) => say(out, b"finished\n"),
+        Err(BadLine::Malformed) => say(out, b"21\n"),
+        Err(BadLine::Unfinished) => say(out, b"22\n"),
     }
 }
 
 fn step_line(out: Stdout, x: Step, next: usize) {
-    let _ = match x {
-        Step::R(k, u) => println!(out; "R\t{}\t{}\t{next}", k.0, u.0),
-        Step::N(k, u) => println!(out; "N\t{}\t{}\t{next}", k.0, u.0),
-        Step::P(k) => println!(out; "P\t{}\t{next}", k.0),
-        Step::I(k) => println!(out; "I\t{}\t{next}", k.0),
-        Step::C(k) => println!(out; "C\t{}\t{next}", k.0),
-        Step::L(k) => println!(out; "L\t{}\t{next}", k.0),
-    };
+    match x {
+        Step::R(k, u) => two(out, 'R', k, u, next),
+        Step::N(k, u) => two(out, 'N', k, u, next),
+        Step::P(k) => one(out, 'P', k, next),
+        Step::I(k) => one(out, 'I', k, next),
+        Step::C(k) => one(out, 'C', k, next),
+        Step::L(k) => one(out, 'L', k, next),
+    }
+}
+
+fn one(out: Stdout, letter: char, k: CoreNo, next: usize) {
+    let _ = println!(out; "{letter}\t{}\t{next}", k.0);
+}
+
+fn two(out: Stdout, letter: char, k: CoreNo, u: UnitNo, next: usize) {
+    let _ = println!(out; "{letter}\t{}\t{}\t{next}", k.0, u.0);
 }
 
 fn header(out: Stdout, s: &[u8]) {
     match script::read_header(s, 0) {
         Ok((c, n, next)) => header_line(out, c, n, next),
-        Err(BadHeader::Malformed) => say(out, "20"),
-        Err(BadHeader::Unfinished) => say(out, "22"),
+        Err(BadHeader::Malformed) => say(out, b"20\n"),
+        Err(BadHeader::Unfinished) => say(out, b"22\n"),
     }
 }
 
@@ -82,7 +90,7 @@ fn word(out: Stdout, s: &[u8]) {
     };
     match words::unpack(u32::from_le_bytes(*bytes)) {
         Some(r) => register(out, r),
-        None => say(out, "30"),
+        None => say(out, b"30\n"),
     }
 }
 
@@ -95,7 +103,7 @@ fn register(out: Stdout, r: Register) {
     let _ = println!(out; "W\t{}\t{}\t{}", ticket.0, u8::from(valid), u8::from(flag));
 }
 
-// A line.
-fn say(out: Stdout, text: &str) {
-    let _ = out.println(text);
+// A line that has no numbers to be written.
+fn say(out: Stdout, line: &[u8]) {
+    let _ = out.write_all(line);
 }
