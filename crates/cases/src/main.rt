@@ -48,7 +48,7 @@ mod table;
 mod text;
 mod writers;
 
-use bytes::{capital, count};
+use bytes::{count, letter};
 use image::WORDS_MOST;
 use pieces::keep;
 use std::io::Read;
@@ -127,15 +127,15 @@ fn read_on(rt: HostRuntime, p: Place, input: &mut [u8], a: &mut Answers<'_>) -> 
 // How many bytes the case at the front has, if it is one. Where not even its lengths are all there, it is
 // more than there are.
 fn size(s: &[u8]) -> Option<usize> {
-    match capital(s) {
+    match letter(s) {
         b'T' | b'G' => Some(3 + count(s, 1)),
         b'B' => Some(5 + count(s, 3)),
-        b'S' => Some(TABLE_SIZE),
-        b'M' => Some(TABLE_SIZE + 5),
+        b'S' | b's' => Some(TABLE_SIZE),
+        b'M' | b'm' => Some(TABLE_SIZE + 5),
         b'W' | b'P' => Some(5),
-        b'I' => image_size(s, 9 + 4 * count(s, 7)),
-        b'O' => image_size(s, IMAGE_SIZE),
-        b'H' => writers_size(s, 13),
+        b'I' | b'i' => image_size(s, 9 + 4 * count(s, 7)),
+        b'O' | b'o' => image_size(s, IMAGE_SIZE),
+        b'H' | b'h' => writers_size(s, 13),
         b'L' => writers_size(s, 10),
         b'E' => writers_size(s, 21),
         _ => None,
@@ -154,16 +154,16 @@ fn writers_size(s: &[u8], n: usize) -> Option<usize> {
 
 // The answer of a whole case, but for its line end.
 fn answer(s: &[u8], a: &mut Answers<'_>) {
-    match capital(s) {
+    match letter(s) {
         b'T' => scripts::answer(s, a),
         b'B' => scripts::answer_lent(s, a),
         b'G' => logged::answer(s, a),
-        b'S' => table::answer(s, a),
-        b'M' => methods::answer(s, a),
+        b'S' | b's' => table::answer(s, a),
+        b'M' | b'm' => methods::answer(s, a),
         b'W' => register::answer_word(s, a),
         b'P' => register::answer_register(s, a),
-        b'I' => image::answer_reading(s, a),
-        b'O' => image::answer_writing(s, a),
+        b'I' | b'i' => image::answer_reading(s, a),
+        b'O' | b'o' => image::answer_writing(s, a),
         _ => writers::answer(s, a),
     }
 }

@@ -98,10 +98,9 @@ pub(crate) fn units(s: &[u8], from: usize) -> [LockUnit; UNITS]
 fn unit(s: &[u8], at: usize) -> LockUnit
     requires { at < 16384 }
 {
-    LockUnit {
-        next: next(s, at + REGISTER * CORES),
-        ..registers(s, at)
-    }
+    let mut x = registers(s, at);
+    x.next = next(s, at + REGISTER * CORES);
+    x
 }
 
 // A unit with the registers at a place. They are set one by one, since `registered` alone changes a unit's.

@@ -34,12 +34,14 @@ impl Answers<'_> {
 
     // Puts bytes behind the answers, as many as have room.
     pub(crate) fn put(&mut self, text: &[u8]) {
+        let mut at = self.wrote;
         for b in text {
-            if let Some(place) = self.out.get_mut(self.wrote) {
+            if let Some(place) = self.out.get_mut(at) {
                 *place = *b;
-                self.wrote += 1;
+                at += 1;
             }
         }
+        self.wrote = at;
     }
 
     // A tab and a number.
